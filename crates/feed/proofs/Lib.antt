@@ -1,0 +1,4 @@
+pub mod Bytes
+pub mod Deciding
+pub mod Framing
+pub mod Reading

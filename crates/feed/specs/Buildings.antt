@@ -1,0 +1,42 @@
+-- The numbers of a building: where they lie in its note, and their ranges. Assumes nothing.
+use mathlib.Core.Path.{_≡_}
+use mathlib.Core.List.{List}
+use Prim.Native.Nat.{ℕ}
+use Rattle.feed.specs.declared.building.Building.{Building}
+use Rattle.feed.specs.declared.building.BuildingNumbers.{BuildingNumbers}
+use Rattle.feed.specs.Codes.{region-number, type-number}
+use Rattle.feed.specs.Fields.{field}
+use Rattle.feed.specs.Ranges.{Within}
+
+abbrev pub building-numbers : List ℕ → BuildingNumbers
+building-numbers note = record {
+  area = field note 4 4;
+  life = field note 8 2;
+  region = field note 10 2;
+  sun = field note 12 2;
+  «building_type» = field note 14 2;
+  reference = field note 16 2;
+}
+
+pub record Building-in-range (b : BuildingNumbers) : Type 0 where
+  pub area : Within 1 (b .area) 100000000
+  pub life : Within 1 (b .life) 100
+  pub region : Within 1 (b .region) 5
+  pub sun : Within 1 (b .sun) 4
+  pub building-type : Within 1 (b .«building_type») 8
+  pub reference : Within 0 (b .reference) 10000
+
+-- a building by its numbers
+abbrev pub numbers-of : Building → BuildingNumbers
+numbers-of b = record {
+  area = b .area;
+  life = b .life;
+  region = region-number (b .region);
+  sun = b .sun;
+  «building_type» = type-number (b .«building_type»);
+  reference = b .reference;
+}
+
+-- the building of a note
+abbrev pub Is-building : List ℕ → Building → Type 0
+Is-building note b = numbers-of b ≡ building-numbers note

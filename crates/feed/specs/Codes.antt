@@ -1,0 +1,43 @@
+-- The numbers that a feed has for regions, building types and units. Assumes nothing.
+use Prim.Native.Nat.{ℕ}
+use Rattle.feed.specs.declared.building.Region.{Region}
+use Rattle.feed.specs.declared.building.Region.the-variants.{SevereCold, Cold, HotSummerColdWinter, HotSummerWarmWinter, Mild}
+use Rattle.feed.specs.declared.building.BuildingType.{BuildingType}
+use Rattle.feed.specs.declared.building.BuildingType.the-variants.{Residential, SmallOffice, LargeOffice, SmallHotel, LargeHotel, Shop, Hospital, School}
+use Rattle.feed.specs.declared.factor.FactorUnit.{FactorUnit}
+use Rattle.feed.specs.declared.factor.FactorUnit.the-variants.{Tonne, CubicMetre, KilowattHour, Kilogram, TonneKilometre, Piece, SquareMetre}
+use Rattle.feed.specs.declared.kind.Kind.{Kind}
+use Rattle.feed.specs.declared.kind.Kind.the-variants.{Building, Factor, Counted, Measured, Withdrawal}
+
+abbrev pub region-number : Region → ℕ
+region-number SevereCold = 1
+region-number Cold = 2
+region-number HotSummerColdWinter = 3
+region-number HotSummerWarmWinter = 4
+region-number Mild = 5
+
+abbrev pub type-number : BuildingType → ℕ
+type-number Residential = 1
+type-number SmallOffice = 2
+type-number LargeOffice = 3
+type-number SmallHotel = 4
+type-number LargeHotel = 5
+type-number Shop = 6
+type-number Hospital = 7
+type-number School = 8
+
+abbrev pub unit-number : FactorUnit → ℕ
+unit-number Tonne = 1
+unit-number CubicMetre = 2
+unit-number KilowattHour = 3
+unit-number Kilogram = 4
+unit-number TonneKilometre = 5
+unit-number Piece = 6
+unit-number SquareMetre = 7
+
+abbrev pub kind-number : Kind → ℕ
+kind-number Building = 1
+kind-number Factor = 2
+kind-number Counted = 3
+kind-number Measured = 4
+kind-number Withdrawal = 5

@@ -1,0 +1,10 @@
+pub mod Buildings
+pub mod Codes
+pub mod Entries
+pub mod Factors
+pub mod Fields
+pub mod Frames
+pub mod Notes
+pub mod Ranges
+pub mod Readings
+pub mod Refusals

@@ -1,0 +1,75 @@
+// A factor row read from bytes, and the factor that it gives.
+ghost use mathlib.Core.Path.{_≡_};
+ghost use lib.ListN.{length};
+ghost use Rattle.std.specs.Options.{Cases};
+ghost use Rattle.feed.specs.Codes.{unit-number};
+ghost use Rattle.feed.specs.Factors.{Row-in-range, Is-row};
+ghost use Rattle.feed.specs.Frames.{Framed, first-note, note-kind};
+ghost use Rattle.feed.specs.Readings.{Reads, ranges};
+ghost use Rattle.feed.specs.Refusals.{Decided};
+ghost use Rattle.feed.specs.Ranges.{Within};
+use crate::factor::Factor;
+use crate::factor::FactorRow;
+use crate::factor::FactorUnit;
+use crate::frame::note_of_kind;
+use crate::kind::Kind;
+use crate::little::u16_at;
+use crate::little::u32_at;
+use crate::refusal::Refusal;
+
+const AMOUNT_MAX: u32 = 1_000_000_000;
+
+impl FactorUnit {
+    pub fn from_number(n: u16) -> Option<FactorUnit>
+        ensures { λ r. ⌜ Cases r (Within 1 n 7 → ⊥) (λ unit. unit-number unit ≡ n) ⌝ }
+    {
+        match n {
+            1 => Some(FactorUnit::Tonne),
+            2 => Some(FactorUnit::CubicMetre),
+            3 => Some(FactorUnit::KilowattHour),
+            4 => Some(FactorUnit::Kilogram),
+            5 => Some(FactorUnit::TonneKilometre),
+            6 => Some(FactorUnit::Piece),
+            7 => Some(FactorUnit::SquareMetre),
+            _ => None,
+        }
+    }
+}
+
+impl FactorRow {
+    // The factor row that the bytes begin with. One that is read is in range.
+    pub fn read(bytes: &[u8]) -> Result<FactorRow, Refusal>
+        ensures value { λ r. ⌜ Reads (λ k. k ≡ 2) Is-row (now (bytes .entry)) r ⌝ }
+        ensures alone { λ r. ⌜ (Framed (now (bytes .entry)) → Reads (λ k. k ≡ 2) Is-row (first-note (now (bytes .entry))) r) ⌝ }
+    {
+        FactorRow::from_note(note_of_kind(bytes, Kind::Factor)?)
+    }
+
+    pub(crate) fn from_note(note: &[u8]) -> Result<FactorRow, Refusal>
+        requires kind { ⌜ note-kind (now note) ≡ 2 ⌝ }
+        requires length { ⌜ length (now note) ≡ 14 ⌝ }
+        ensures { λ r. ⌜ Decided (ranges (now (note .entry))) (Is-row (now (note .entry))) r ⌝ }
+    {
+        let row = FactorRow {
+            code: u32_at(note, 4),
+            amount: u32_at(note, 8),
+            unit: u16_at(note, 12),
+        };
+        match row.factor() {
+            Some(_) => Ok(row),
+            None => Err(Refusal::OutOfRange),
+        }
+    }
+
+    // The factor of this row, if its amount and its unit are in range.
+    pub fn factor(self) -> Option<Factor>
+        ensures { λ r. ⌜ Cases r (Row-in-range self → ⊥) (λ f. Row-in-range self × (f .amount ≡ self .amount) × (unit-number (f .unit) ≡ self .unit)) ⌝ }
+    {
+        let unit = FactorUnit::from_number(self.unit)?;
+        let amount = self.amount;
+        if amount > AMOUNT_MAX {
+            return None;
+        }
+        Some(Factor { amount, unit })
+    }
+}

@@ -1,0 +1,48 @@
+// The kinds of notes.
+ghost use mathlib.Core.Path.{_≡_};
+ghost use Rattle.std.specs.Options.{Cases};
+ghost use Rattle.feed.specs.Codes.{kind-number};
+ghost use Rattle.feed.specs.Frames.{note-size};
+ghost use Rattle.feed.specs.Ranges.{Within};
+
+#[derive(Clone, Copy)]
+pub enum Kind {
+    Building = 1,
+    Factor = 2,
+    Counted = 3,
+    Measured = 4,
+    Withdrawal = 5,
+}
+
+impl Kind {
+    pub fn from_number(n: u16) -> Option<Kind>
+        ensures { λ r. ⌜ Cases r (Within 1 n 5 → ⊥) (λ kind. kind-number kind ≡ n) ⌝ }
+    {
+        match n {
+            1 => Some(Kind::Building),
+            2 => Some(Kind::Factor),
+            3 => Some(Kind::Counted),
+            4 => Some(Kind::Measured),
+            5 => Some(Kind::Withdrawal),
+            _ => None,
+        }
+    }
+
+    pub fn number(self) -> u16
+        ensures { λ r. ⌜ r ≡ kind-number self ⌝ }
+    {
+        self as u16
+    }
+
+    // How many bytes a note of this kind has.
+    pub fn size(self) -> usize
+        ensures { λ r. ⌜ r ≡ note-size (kind-number self) ⌝ }
+    {
+        match self {
+            Kind::Building => 18,
+            Kind::Factor => 14,
+            Kind::Counted | Kind::Measured => 28,
+            Kind::Withdrawal => 12,
+        }
+    }
+}
