@@ -1,9 +1,9 @@
 -- The first note of bytes: laws of `Framed` and `first-note`. Assumes nothing.
 use mathlib.Core.Path.{_≡_, refl, sym, ap, subst, _∙_}
-use mathlib.Core.List.{List, [], _∷_}
+use mathlib.Core.List.{List, _++_}
 use Prim.Native.Nat.{ℕ, _+_, _-_, _≤_}
 use native.Mathlib.Omega.{arith}
-use lib.ListN.{length, take, drop}
+use lib.ListN.{length, take, drop, take-append-drop}
 use Rattle.std.proofs.shelf.Lists.{length-take-le, take-take, take-all, drop-take}
 use Rattle.feed.specs.Fields.{little, field}
 use Rattle.feed.specs.Frames.{Framed, first-note, One-note}
@@ -34,3 +34,8 @@ framed-one note h = record { head = h .head; least = omega (arith, h .head, h .s
 pub first-one : (note : List ℕ) → One-note note → first-note note ≡ note
 unfolding first-note
 first-one note h = take-all (field note 0 2) note (omega (arith, h .sized))
+
+-- framed bytes are their first note and what comes after it
+pub first-whole : (bs : List ℕ) → Framed bs → first-note bs ++ drop (length (first-note bs)) bs ≡ bs
+unfolding first-note
+first-whole bs h = ap (λ n. take (field bs 0 2) bs ++ drop n bs) (length-first bs h) ∙ take-append-drop (field bs 0 2) bs

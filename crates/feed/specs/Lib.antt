@@ -2,6 +2,7 @@ pub mod Buildings
 pub mod Codes
 pub mod Entries
 pub mod Factors
+pub mod Feeds
 pub mod Fields
 pub mod Frames
 pub mod Notes

@@ -6,4 +6,5 @@ pub mod frame;
 pub mod kind;
 mod little;
 pub mod note;
+pub mod reader;
 pub mod refusal;

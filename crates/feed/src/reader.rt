@@ -1,0 +1,27 @@
+// The notes of a feed, one after the other.
+ghost use Prim.Native.Nat.{_≤_};
+ghost use lib.ListN.{length};
+
+mod calls;
+
+// A note as a part of the feed.
+#[derive(Clone, Copy)]
+pub struct Part<'a> {
+    // the note's place among the notes of the feed, from 1
+    pub place: usize,
+    // how many bytes of the feed come before it
+    pub start: usize,
+    pub bytes: &'a [u8],
+}
+
+// Reads the caller's bytes where they lie.
+#[derive(Clone, Copy)]
+pub struct Reader<'a> {
+    feed: &'a [u8],
+    // how many bytes have been handed out
+    start: usize,
+    // how many notes they were
+    handed: usize,
+    ghost within: { start ≤ length (feed .now) },
+    ghost few: { handed ≤ start },
+}
