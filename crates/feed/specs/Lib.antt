@@ -5,6 +5,7 @@ pub mod Factors
 pub mod Feeds
 pub mod Fields
 pub mod Frames
+pub mod Heads
 pub mod Notes
 pub mod Ranges
 pub mod Readings

@@ -5,6 +5,7 @@ ghost use Prim.Native.Nat.{_≤_};
 ghost use lib.ListN.{length};
 ghost use Rattle.feed.specs.Codes.{kind-number};
 ghost use Rattle.feed.specs.Frames.{first-note, note-kind};
+ghost use Rattle.feed.specs.Heads.{Is-head};
 ghost use Rattle.feed.specs.Readings.{framing, shape};
 ghost use Rattle.feed.specs.Refusals.{Decided};
 use crate::kind::Kind;
@@ -33,6 +34,26 @@ pub(crate) fn kind_of(note: &[u8]) -> u16
     ensures { λ r. ⌜ r ≡ note-kind (now (note .entry)) ⌝ }
 {
     u16_at(note, 2)
+}
+
+// What a note says before its fields.
+#[derive(Clone, Copy)]
+pub struct Head {
+    pub length: usize,
+    pub kind: u16,
+}
+
+impl Head {
+    // The length and the kind of the first note of the bytes.
+    pub fn read(bytes: &[u8]) -> Result<Head, Refusal>
+        ensures { λ r. ⌜ Decided (framing (now (bytes .entry))) (Is-head (first-note (now (bytes .entry)))) r ⌝ }
+    {
+        let note = first_note(bytes)?;
+        Ok(Head {
+            length: note.len(),
+            kind: kind_of(note),
+        })
+    }
 }
 
 // The first note of the bytes, where it is of this kind and as long as the kind asks.

@@ -1,6 +1,7 @@
 // The notes of a feed, one after the other.
 ghost use Prim.Native.Nat.{_≤_};
 ghost use lib.ListN.{length};
+use crate::refusal::Refusal;
 
 mod calls;
 
@@ -12,6 +13,14 @@ pub struct Part<'a> {
     // how many bytes of the feed come before it
     pub start: usize,
     pub bytes: &'a [u8],
+}
+
+// What a reader answers: the next note, that the feed has ended, or why what is left is no note.
+#[derive(Clone, Copy)]
+pub enum Next<'a> {
+    Note(Part<'a>),
+    End,
+    Refused(Refusal),
 }
 
 // Reads the caller's bytes where they lie.

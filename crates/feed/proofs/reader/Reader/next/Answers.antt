@@ -5,9 +5,7 @@ use Prim.Native.Nat.{_+_, _<_}
 use native.Mathlib.Omega.{arith}
 use lib.ListN.{length, drop, length-drop}
 use Rattle.std.proofs.shelf.Lists.{take-rest, drop-all}
-use Rattle.std.proofs.shelf.Results.{err-from-errBy}
-use Rattle.std.specs.declared.option.Option.the-variants.{Some, None}
-use Rattle.std.specs.declared.result.Result.the-variants.{Ok}
+use Rattle.feed.specs.declared.reader.Next.the-variants.{Note, End, Refused}
 use Rattle.feed.specs.declared.reader.Part.{Part}
 use Rattle.feed.specs.Feeds.{Answered, Hands, called}
 use Rattle.feed.specs.Frames.{Framed, first-note}
@@ -19,28 +17,27 @@ pub returns-then-self : need.returns-then-self
 returns-then-self c =
     let self = c .args .self .now in
     let feed = self .feed .now in
-    let told : Answered feed (self .start) (self .handed) (Ok None) (self .start) (self .handed) =
+    let told : Answered feed (self .start) (self .handed) (End) (self .start) (self .handed) =
     (drop-all (self .start) feed (omega arith), record { bytes = refl; notes = refl }) in
-    record { feed = refl; value = told; law = λ before run. lawful feed (Ok None ∷ before) _ _ (called run told) }
+    record { feed = refl; value = told; law = λ before run. lawful feed (End ∷ before) _ _ (called run told) }
 
-pub returns-in-Break-bytes : need.returns-in-Break-bytes
-returns-in-Break-bytes c =
+pub returns-in-Err : need.returns-in-Err
+returns-in-Err c =
     let self = c .args .self .now in
     let feed = self .feed .now in
     let rest = take-rest feed (self .start) in
+    let refusal = c .in-Err .refusal in
     let some : 0 < length (drop (self .start) feed) = rw length-drop (omega (arith, self .within, c .if-self .left)) in
-    let exit = err-from-errBy (c .from-residual .result) (c .from-residual .ensures .1) in
-    let least = c .in-Break-bytes .ensures tt .0 in
-    let told : Answered feed (self .start) (self .handed) (c .from-residual .result) (self .start) (self .handed) =
-    rw (exit .1, exit .2)
+    let least = c .in-Err .ensures tt .0 in
+    let told : Answered feed (self .start) (self .handed) (Refused refusal) (self .start) (self .handed) =
     ((some, ⊎-elim (λ e. subst (λ bs. Framed bs → ⊥) rest (e .1)) absurd least, ⊎-elim (λ e. e .0) absurd least), record { bytes = refl; notes = refl }) in
-    record { feed = refl; value = told; law = λ before run. lawful feed (c .from-residual .result ∷ before) _ _ (called run told) }
+    record { feed = refl; value = told; law = λ before run. lawful feed (Refused refusal ∷ before) _ _ (called run told) }
 
 pub ghost-self : need.ghost-self
 ghost-self c =
     let self = c .args .self .now in
     let rest = take-rest (self .feed .now) (self .start) in
-    let step = c .in-Continue-bytes .ensures tt in
+    let step = c .in-Ok .ensures tt in
     let framed = subst Framed rest (step .0 .0) in
     let long = ap length (step .1 ∙ ap first-note rest) ∙ length-first (drop (self .start) (self .feed .now)) framed in
     let least = framed .least in
@@ -52,9 +49,9 @@ pub returns : need.returns
 returns c =
     let self = c .args .self .now in
     let feed = self .feed .now in
-    let bytes = c .in-Continue-bytes .bytes in
+    let bytes = c .in-Ok .bytes in
     let rest = take-rest feed (self .start) in
-    let step = c .in-Continue-bytes .ensures tt in
+    let step = c .in-Ok .ensures tt in
     let part : Part = record { place = self .handed + 1; start = self .start; bytes = bytes } in
     let told : Hands feed (self .start) (self .handed) part (self .start + length (bytes .now)) (self .handed + 1) =
     record {
@@ -65,4 +62,4 @@ returns c =
       bytes = refl;
       notes = refl;
     } in
-    record { feed = refl; value = told; law = λ before run. lawful feed (Ok (Some part) ∷ before) _ _ (called run told) }
+    record { feed = refl; value = told; law = λ before run. lawful feed (Note part ∷ before) _ _ (called run told) }

@@ -1,0 +1,2 @@
+mod Texts
+pub mod Listed

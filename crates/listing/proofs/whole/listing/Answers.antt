@@ -1,0 +1,29 @@
+use mathlib.Core.Path.{ap, _∙_}
+use native.Mathlib.Omega.{arith}
+use lib.ListN.{length}
+use Rattle.feed.proofs.Running.{hands-note}
+use Rattle.listing.proofs.Listed.{none-yet, one-more, no-more}
+use Rattle.listing.proofs.whole.listing.Needs as need
+
+pub loop-part-holds : need.loop-part-holds
+loop-part-holds c =
+    let new = c .new-reader .ensures in
+    none-yet _ _ _ (new .feed) (new .start) (new .handed) (c .new-text .ensures .bytes)
+
+pub loop-part-less : need.loop-part-less
+loop-part-less c =
+    let told = c .in-Note .ensures tt in
+    let note = hands-note _ _ _ _ _ _ (told .value) in
+    let whole = ap length (told .feed ∙ c .loop-part .inv .same) in
+    omega (arith, c .next .last .self .within, told .value .bytes, note .head)
+
+pub loop-part-again : need.loop-part-again
+loop-part-again c =
+    let told = c .in-Note .ensures tt in
+    one-more _ _ _ (c .loop-part .inv) (c .in-Note .part) (c .next .last .self) _ _ _ (told .feed) (told .value) (c .in-Continue-line .ensures tt) (c .in-Continue-push-str .ensures tt .bytes) (c .as-str .ensures .value)
+
+pub returns : need.returns
+returns c =
+    let told = c .next .ensures in
+    let left = c .left .ensures in
+    no-more _ _ _ (c .loop-part .inv) (c .next .result) (c .next .last .self) (c .left .result) _ _ _ (told .feed) (c .in-rest .not-Note) (told .value) (left .place) (left .start) (left .bytes) (c .in-Continue-last .ensures tt) (c .in-Continue-push-str-2 .ensures tt .bytes) (c .as-str-2 .ensures .value)

@@ -1,0 +1,74 @@
+-- The lines of a listing. Assumes nothing.
+use mathlib.Core.Path.{_≡_}
+use mathlib.Core.List.{List, [], _∷_, _++_}
+use Prim.Native.Nat.{ℕ}
+use lib.Chars.{codes}
+use lib.ListN.{length, getD}
+use Rattle.std.specs.declared.result.Result.{Result}
+use Rattle.std.specs.declared.result.Result.the-variants.{Ok, Err}
+use Rattle.std.specs.Joined.{joined}
+use Rattle.std.specs.Written.{decimal}
+use Rattle.feed.specs.declared.building.BuildingNumbers.{BuildingNumbers}
+use Rattle.feed.specs.declared.entry.EntryHead.{EntryHead}
+use Rattle.feed.specs.declared.note.Note.{Note}
+use Rattle.feed.specs.declared.note.Note.the-variants.{Building, Factor, Counted, Measured, Withdrawal}
+use Rattle.feed.specs.declared.refusal.Refusal.{Refusal}
+use Rattle.feed.specs.Buildings.{numbers-of}
+use Rattle.feed.specs.Frames.{Framed, first-note, note-kind}
+use Rattle.feed.specs.Notes.{Known, Says, kind-of-note}
+use Rattle.feed.specs.Readings.{Reads}
+use Rattle.feed.specs.Refusals.{refusal-number}
+
+-- the word for a kind
+abbrev pub kind-word : ℕ → List ℕ
+kind-word k =
+    getD (codes "unknown" ∷ codes "building" ∷ codes "factor" ∷ codes "entry" ∷ codes "measured" ∷ codes "withdrawal" ∷ []) k (codes "unknown")
+
+-- a field's name and its value
+abbrev pub Named : Type 0
+Named = List ℕ × ℕ
+
+abbrev pub named : Named → List ℕ
+named f = codes " " ++ (f .0 ++ (codes "=" ++ decimal (f .1)))
+
+abbrev pub building-fields : BuildingNumbers → List Named
+building-fields b =
+    (codes "area", b .area) ∷ (codes "life", b .life) ∷ (codes "region", b .region) ∷ (codes "sun", b .sun)
+    ∷ (codes "type", b .«building_type») ∷ (codes "reference", b .reference) ∷ []
+
+abbrev pub head-fields : EntryHead → List Named
+head-fields e =
+    (codes "number", e .number) ∷ (codes "revision", e .revision) ∷ (codes "row", e .row) ∷ (codes "span", e .span)
+    ∷ (codes "code", e .code) ∷ []
+
+abbrev pub note-fields : Note → List Named
+note-fields (Building b) = building-fields (numbers-of b)
+note-fields (Factor row) = (codes "code", row .code) ∷ (codes "amount", row .amount) ∷ (codes "unit", row .unit) ∷ []
+note-fields (Counted e) = head-fields (e .head) ++ ((codes "quantity", e .quantity) ∷ [])
+note-fields (Measured e) = head-fields (e .head) ++ ((codes "bits", e .bits) ∷ [])
+note-fields (Withdrawal w) = (codes "number", w .number) ∷ (codes "revision", w .revision) ∷ []
+
+-- a note's kind in a word, and its fields by name
+abbrev pub note-said : Note → List ℕ
+note-said n = kind-word (kind-of-note n) ++ joined named (note-fields n)
+
+abbrev pub refused : ℕ → List ℕ
+refused n = codes " refused " ++ decimal n
+
+-- what is said of bytes that are refused by the number n: of a note its kind and its length, and else how many bytes there are
+pub record Refused-said (bs : List ℕ) (n : ℕ) (s : List ℕ) : Type 0 where
+  pub note : Framed bs → s ≡ kind-word (note-kind (first-note bs)) ++ (named (codes "kind", note-kind (first-note bs)) ++ (named (codes "length", length (first-note bs)) ++ refused n))
+  pub unframed : (Framed bs → ⊥) → s ≡ codes "unframed" ++ (named (codes "left", length bs) ++ refused n)
+
+-- s is said of bytes of which reading answers so
+abbrev pub Said : List ℕ → Result Note Refusal → List ℕ → Type 0
+Said bs (Ok n) s = s ≡ note-said n
+Said bs (Err f) s = Refused-said bs (refusal-number f) s
+
+-- the line for the bytes that stand at the place k, after `at` bytes of the feed
+pub record Line (k at : ℕ) (bs line : List ℕ) : Type 0 where
+  pub answer : Result Note Refusal
+  pub read : Reads Known Says bs answer
+  pub said : List ℕ
+  pub tells : Said bs answer said
+  pub text : line ≡ decimal k ++ (named (codes "at", at) ++ (codes " " ++ (said ++ codes "\n")))

@@ -1,0 +1,18 @@
+-- The listing of a whole feed. Assumes nothing.
+use mathlib.Core.Path.{_≡_}
+use mathlib.Core.List.{List, [], _++_}
+use Prim.Native.Nat.{ℕ, _+_, _<_}
+use lib.Chars.{codes}
+use lib.ListN.{length}
+use Rattle.feed.specs.Frames.{Framed, One-note}
+use Rattle.listing.specs.Lines.{named, Line}
+
+-- the line for what is left where no note can be read any more: nothing, or bytes that cannot be framed
+pub record Last-line (k at : ℕ) (bs line : List ℕ) : Type 0 where
+  pub none : bs ≡ [] → line ≡ codes "end" ++ (named (codes "at", at) ++ codes "\n")
+  pub some : 0 < length bs → Line k at bs line
+
+-- the listing of the bytes that stand at the place k, after `at` bytes of the feed: a line for each note, and the last line
+pub data Lists : ℕ → ℕ → List ℕ → List ℕ → Type 0 where
+  note : {k at : ℕ} {bs text : List ℕ} (n rest line more : List ℕ) → One-note n → bs ≡ n ++ rest → Line k at n line → Lists (k + 1) (at + length n) rest more → text ≡ line ++ more → Lists k at bs text
+  last : {k at : ℕ} {bs text : List ℕ} → (Framed bs → ⊥) → Last-line k at bs text → Lists k at bs text

@@ -1,0 +1,3 @@
+// A feed in words: a line for each note, and how the feed ends.
+pub mod line;
+pub mod whole;

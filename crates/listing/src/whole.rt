@@ -1,0 +1,38 @@
+// The listing of a whole feed.
+ghost use mathlib.Core.Path.{_≡_};
+ghost use Rattle.std.specs.Of.String.{string-bytes};
+ghost use Rattle.std.specs.Vec.{made};
+ghost use Rattle.listing.specs.Listings.{Last-line, Lists};
+use crate::line::line;
+use feed::reader::Next;
+use feed::reader::Part;
+use feed::reader::Reader;
+use std::alloc::AllocError;
+use std::alloc::Global;
+
+// A line for each note of the feed, and a last one that says how the feed ends.
+pub fn listing(heap: Global, feed: &[u8]) -> Result<String, AllocError>
+    ensures { λ r. ⌜ made r (λ s. Lists 1 0 (now (feed .entry)) (string-bytes s)) ⌝ }
+{
+    let mut text = String::new(heap);
+    let mut reader = Reader::new(feed);
+    while let Next::Note(part) = reader.next() {
+        let line = line(heap, &part)?;
+        text.push_str(line.as_str())?;
+    }
+    let last = last_line(heap, &reader.left())?;
+    text.push_str(last.as_str())?;
+    Ok(text)
+}
+
+// The line for what is left of a feed where no note can be read any more.
+fn last_line(heap: Global, left: &Part) -> Result<String, AllocError>
+    ensures { λ r. ⌜ made r (λ s. Last-line (now (left .entry) .place) (now (left .entry) .start) (now (now (left .entry) .bytes)) (string-bytes s)) ⌝ }
+{
+    if left.bytes.is_empty() {
+        let start = left.start;
+        format!(heap, "end at={start}\n")
+    } else {
+        line(heap, left)
+    }
+}
