@@ -1,0 +1,7 @@
+// Tests of the feed and of its listing, against bytes and lines that were written by hand.
+#[cfg(test)]
+mod fields;
+#[cfg(test)]
+mod lines;
+#[cfg(test)]
+mod reader;
