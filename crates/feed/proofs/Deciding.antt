@@ -4,6 +4,7 @@ use mathlib.Core.Logic.{_⊎_, inl, inr, ⊎-elim}
 use mathlib.Core.List.{List, [], _∷_, _++_}
 use Prim.Native.Nat.{ℕ, _≤_, _<_}
 use native.Mathlib.Omega.{arith}
+use Rattle.std.proofs.str.Laws.{order}
 use Rattle.std.specs.declared.result.Result.{Result}
 use Rattle.std.specs.declared.result.Result.the-variants.{Ok, Err}
 use Rattle.feed.specs.declared.refusal.Refusal.{Refusal}
@@ -17,7 +18,7 @@ kept-right : (cs ds : Conditions) → Kept (cs ++ ds) → Kept ds
 kept-right [] ds k = k
 kept-right (c ∷ cs) ds k = kept-right cs ds (k .1)
 
-unbroken : (cs : Conditions) → Kept cs → (n : ℕ) → Broken cs n → ⊥
+pub unbroken : (cs : Conditions) → Kept cs → (n : ℕ) → Broken cs n → ⊥
 unbroken [] k n b = b
 unbroken (c ∷ cs) k n (inl e) = e .1 (k .0)
 unbroken (c ∷ cs) k n (inr b) = unbroken cs (k .1) n b
@@ -72,6 +73,11 @@ least-stop cs ds k n up below d =
 -- the first condition fails, and those after it have larger numbers
 pub least-here : {P : Type 0} (n : ℕ) (cs : Conditions) → (P → ⊥) → Below-all n cs → Least ((n, P) ∷ cs) n
 least-here n cs fails below = (inl (refl, fails), λ m l b. ⊎-elim (λ e. omega (arith, e .0)) (unbroken-below n cs below m l) b)
+
+-- no two numbers are the smallest
+pub least-only : (cs : Conditions) (m n : ℕ) → Least cs m → Least cs n → m ≡ n
+least-only cs m n a b =
+    ⊎-elim (λ l. absurd (b .1 m l (a .0))) (λ l. ⊎-elim (λ l′. absurd (a .1 n l′ (b .0))) (λ l′. omega arith) (order n m)) (order m n)
 
 module _ {X : Type 0} (Q : X → Type 0) (cs ds : Conditions) (kept : Kept cs) where
   pub decided-on : (r : Result X Refusal) → Decided ds Q r → Decided (cs ++ ds) Q r

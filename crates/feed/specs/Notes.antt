@@ -14,22 +14,10 @@ use Rattle.feed.specs.Ranges.{Within}
 abbrev pub Known : ℕ → Type 0
 Known k = Within 1 k 5
 
--- the number of a note's kind
-abbrev pub kind-of-note : Note → ℕ
-kind-of-note (Building b) = 1
-kind-of-note (Factor row) = 2
-kind-of-note (Counted e) = 3
-kind-of-note (Measured e) = 4
-kind-of-note (Withdrawal w) = 5
-
--- the fields of a note are those of its bytes
-abbrev pub Fields-of : List ℕ → Note → Type 0
-Fields-of note (Building b) = Is-building note b
-Fields-of note (Factor row) = Is-row note row
-Fields-of note (Counted e) = e ≡ counted note
-Fields-of note (Measured e) = e ≡ measured note
-Fields-of note (Withdrawal w) = w ≡ withdrawal note
-
--- what bytes say as a note: its kind, and its fields
+-- what the bytes of a note say: the number of its kind, and its fields
 abbrev pub Says : List ℕ → Note → Type 0
-Says note n = (note-kind note ≡ kind-of-note n) × Fields-of note n
+Says note (Building b) = (note-kind note ≡ 1) × Is-building note b
+Says note (Factor row) = (note-kind note ≡ 2) × Is-row note row
+Says note (Counted e) = (note-kind note ≡ 3) × (e ≡ counted note)
+Says note (Measured e) = (note-kind note ≡ 4) × (e ≡ measured note)
+Says note (Withdrawal w) = (note-kind note ≡ 5) × (w ≡ withdrawal note)

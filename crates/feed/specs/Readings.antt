@@ -26,8 +26,10 @@ pub record In-range (note : List ℕ) : Type 0 where
 abbrev pub ranges : List ℕ → Conditions
 ranges note = (4, In-range note) ∷ []
 
--- r is what reading the first note of bs answers: Wanted holds of the kinds that are read, and Value says which value a note gives
+-- what is asked of bytes from which a note is read; Wanted holds of the kinds that are read here
+abbrev pub readable : (ℕ → Type 0) → List ℕ → Conditions
+readable Wanted bs = framing bs ++ (shape Wanted (first-note bs) ++ ranges (first-note bs))
+
+-- r is what reading the first note of bs answers; Value says which value a note gives
 abbrev pub Reads : {X : Type 0} → (ℕ → Type 0) → (List ℕ → X → Type 0) → List ℕ → Result X Refusal → Type 0
-Reads Wanted Value bs r =
-    let note = first-note bs in
-    Decided (framing bs ++ (shape Wanted note ++ ranges note)) (Value note) r
+Reads Wanted Value bs r = Decided (readable Wanted bs) (Value (first-note bs)) r

@@ -9,13 +9,18 @@ use Rattle.std.specs.declared.result.Result.the-variants.{Ok, Err}
 use Rattle.std.specs.Joined.{joined}
 use Rattle.std.specs.Written.{decimal}
 use Rattle.feed.specs.declared.building.BuildingNumbers.{BuildingNumbers}
+use Rattle.feed.specs.declared.entry.CountedEntry.{CountedEntry}
 use Rattle.feed.specs.declared.entry.EntryHead.{EntryHead}
+use Rattle.feed.specs.declared.entry.MeasuredEntry.{MeasuredEntry}
+use Rattle.feed.specs.declared.entry.Withdrawal.{Withdrawal}
+use Rattle.feed.specs.declared.factor.FactorRow.{FactorRow}
 use Rattle.feed.specs.declared.note.Note.{Note}
-use Rattle.feed.specs.declared.note.Note.the-variants.{Building, Factor, Counted, Measured, Withdrawal}
 use Rattle.feed.specs.declared.refusal.Refusal.{Refusal}
-use Rattle.feed.specs.Buildings.{numbers-of}
+use Rattle.feed.specs.Buildings.{building-numbers}
+use Rattle.feed.specs.Entries.{counted, measured, withdrawal}
+use Rattle.feed.specs.Factors.{factor-row}
 use Rattle.feed.specs.Frames.{Framed, first-note, note-kind}
-use Rattle.feed.specs.Notes.{Known, Says, kind-of-note}
+use Rattle.feed.specs.Notes.{Known, Says}
 use Rattle.feed.specs.Readings.{Reads}
 use Rattle.feed.specs.Refusals.{refusal-number}
 
@@ -36,21 +41,35 @@ building-fields b =
     (codes "area", b .area) ∷ (codes "life", b .life) ∷ (codes "region", b .region) ∷ (codes "sun", b .sun)
     ∷ (codes "type", b .«building_type») ∷ (codes "reference", b .reference) ∷ []
 
+abbrev pub row-fields : FactorRow → List Named
+row-fields row = (codes "code", row .code) ∷ (codes "amount", row .amount) ∷ (codes "unit", row .unit) ∷ []
+
 abbrev pub head-fields : EntryHead → List Named
 head-fields e =
     (codes "number", e .number) ∷ (codes "revision", e .revision) ∷ (codes "row", e .row) ∷ (codes "span", e .span)
     ∷ (codes "code", e .code) ∷ []
 
-abbrev pub note-fields : Note → List Named
-note-fields (Building b) = building-fields (numbers-of b)
-note-fields (Factor row) = (codes "code", row .code) ∷ (codes "amount", row .amount) ∷ (codes "unit", row .unit) ∷ []
-note-fields (Counted e) = head-fields (e .head) ++ ((codes "quantity", e .quantity) ∷ [])
-note-fields (Measured e) = head-fields (e .head) ++ ((codes "bits", e .bits) ∷ [])
-note-fields (Withdrawal w) = (codes "number", w .number) ∷ (codes "revision", w .revision) ∷ []
+abbrev pub counted-fields : CountedEntry → List Named
+counted-fields e = head-fields (e .head) ++ ((codes "quantity", e .quantity) ∷ [])
 
--- a note's kind in a word, and its fields by name
-abbrev pub note-said : Note → List ℕ
-note-said n = kind-word (kind-of-note n) ++ joined named (note-fields n)
+abbrev pub measured-fields : MeasuredEntry → List Named
+measured-fields e = head-fields (e .head) ++ ((codes "bits", e .bits) ∷ [])
+
+abbrev pub withdrawal-fields : Withdrawal → List Named
+withdrawal-fields w = (codes "number", w .number) ∷ (codes "revision", w .revision) ∷ []
+
+-- the fields of a note of the kind k
+abbrev pub kind-fields : ℕ → List ℕ → List Named
+kind-fields k note =
+    getD ([] ∷ building-fields (building-numbers note) ∷ row-fields (factor-row note) ∷ counted-fields (counted note) ∷ measured-fields (measured note) ∷ withdrawal-fields (withdrawal note) ∷ []) k []
+
+-- a kind in a word, and fields by name
+abbrev pub said-of : ℕ → List Named → List ℕ
+said-of k fields = kind-word k ++ joined named fields
+
+-- what is said of a note
+abbrev pub note-said : List ℕ → List ℕ
+note-said note = said-of (note-kind note) (kind-fields (note-kind note) note)
 
 abbrev pub refused : ℕ → List ℕ
 refused n = codes " refused " ++ decimal n
@@ -60,9 +79,9 @@ pub record Refused-said (bs : List ℕ) (n : ℕ) (s : List ℕ) : Type 0 where
   pub note : Framed bs → s ≡ kind-word (note-kind (first-note bs)) ++ (named (codes "kind", note-kind (first-note bs)) ++ (named (codes "length", length (first-note bs)) ++ refused n))
   pub unframed : (Framed bs → ⊥) → s ≡ codes "unframed" ++ (named (codes "left", length bs) ++ refused n)
 
--- s is said of bytes of which reading answers so
+-- what is said of bytes, by what reading them answers
 abbrev pub Said : List ℕ → Result Note Refusal → List ℕ → Type 0
-Said bs (Ok n) s = s ≡ note-said n
+Said bs (Ok n) s = s ≡ note-said (first-note bs)
 Said bs (Err f) s = Refused-said bs (refusal-number f) s
 
 -- the line for the bytes that stand at the place k, after `at` bytes of the feed

@@ -1,14 +1,17 @@
 // One line of a listing.
 ghost use mathlib.Core.Path.{_≡_};
-ghost use mathlib.Core.List.{_++_};
-ghost use Rattle.std.specs.Joined.{joined};
+ghost use mathlib.Core.List.{List};
+ghost use Prim.Native.Nat.{ℕ};
 ghost use Rattle.std.specs.Of.String.{string-bytes};
 ghost use Rattle.std.specs.Vec.{made};
-ghost use Rattle.feed.specs.Buildings.{numbers-of};
+ghost use Rattle.feed.specs.Notes.{Says};
 ghost use Rattle.feed.specs.Refusals.{refusal-number};
-ghost use Rattle.listing.specs.Lines.{kind-word, named, building-fields, head-fields, note-said, Refused-said, Line};
-use feed::building::Building;
-use feed::entry::EntryHead;
+ghost use Rattle.listing.specs.Lines.{kind-word, note-said, Refused-said, Line};
+use crate::fields::building;
+use crate::fields::counted;
+use crate::fields::factor;
+use crate::fields::measured;
+use crate::fields::withdrawal;
 use feed::frame::Head;
 use feed::kind::Kind;
 use feed::note::Note;
@@ -19,7 +22,8 @@ use std::alloc::Global;
 
 // The line for a part of a feed: what its first note says, or by which number it is refused.
 pub fn line(heap: Global, part: &Part) -> Result<String, AllocError>
-    ensures { λ r. ⌜ made r (λ s. Line (now (part .entry) .place) (now (part .entry) .start) (now (now (part .entry) .bytes)) (string-bytes s)) ⌝ }
+    ensures value { λ r. ⌜ made r (λ s. Line (now (part .entry) .place) (now (part .entry) .start) (now (now (part .entry) .bytes)) (string-bytes s)) ⌝ }
+    ensures only { λ r. ⌜ made r (λ s. (other : List ℕ) → Line (now (part .entry) .place) (now (part .entry) .start) (now (now (part .entry) .bytes)) other → other ≡ string-bytes s) ⌝ }
 {
     let said = match Note::read(part.bytes) {
         Ok(note) => said(heap, &note)?,
@@ -30,60 +34,17 @@ pub fn line(heap: Global, part: &Part) -> Result<String, AllocError>
     format!(heap, "{place} at={start} {said}\n")
 }
 
-// A note's kind in a word, and its fields by name.
+// What a note says: its kind in a word, and its fields by name.
 fn said(heap: Global, note: &Note) -> Result<String, AllocError>
-    ensures { λ r. ⌜ made r (λ s. string-bytes s ≡ note-said (now (note .entry))) ⌝ }
+    ensures { λ r. ⌜ made r (λ s. (bytes : List ℕ) → Says bytes (now (note .entry)) → string-bytes s ≡ note-said bytes) ⌝ }
 {
     match note {
         Note::Building(b) => building(heap, b),
-        Note::Factor(row) => format!(
-            heap,
-            "factor code={} amount={} unit={}",
-            row.code, row.amount, row.unit
-        ),
-        Note::Counted(e) => {
-            let head = head(heap, &e.head)?;
-            format!(heap, "entry{head} quantity={}", e.quantity)
-        }
-        Note::Measured(e) => {
-            let head = head(heap, &e.head)?;
-            format!(heap, "measured{head} bits={}", e.bits)
-        }
-        Note::Withdrawal(w) => format!(
-            heap,
-            "withdrawal number={} revision={}",
-            w.number, w.revision
-        ),
+        Note::Factor(row) => factor(heap, row),
+        Note::Counted(e) => counted(heap, e),
+        Note::Measured(e) => measured(heap, e),
+        Note::Withdrawal(w) => withdrawal(heap, w),
     }
-}
-
-fn building(heap: Global, b: &Building) -> Result<String, AllocError>
-    ensures { λ r. ⌜ made r (λ s. string-bytes s ≡ kind-word 1 ++ joined named (building-fields (numbers-of (now (b .entry))))) ⌝ }
-{
-    let area = b.area;
-    let life = b.life;
-    let region = b.region.number();
-    let sun = b.sun;
-    let building_type = b.building_type.number();
-    let reference = b.reference;
-    format!(
-        heap,
-        "building area={area} life={life} region={region} sun={sun} type={building_type} reference={reference}"
-    )
-}
-
-fn head(heap: Global, e: &EntryHead) -> Result<String, AllocError>
-    ensures { λ r. ⌜ made r (λ s. string-bytes s ≡ joined named (head-fields (now (e .entry)))) ⌝ }
-{
-    let number = e.number;
-    let revision = e.revision;
-    let row = e.row;
-    let span = e.span;
-    let code = e.code;
-    format!(
-        heap,
-        " number={number} revision={revision} row={row} span={span} code={code}"
-    )
 }
 
 // What is said of bytes that are refused.

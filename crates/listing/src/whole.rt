@@ -1,5 +1,7 @@
 // The listing of a whole feed.
 ghost use mathlib.Core.Path.{_≡_};
+ghost use mathlib.Core.List.{List};
+ghost use Prim.Native.Nat.{ℕ};
 ghost use Rattle.std.specs.Of.String.{string-bytes};
 ghost use Rattle.std.specs.Vec.{made};
 ghost use Rattle.listing.specs.Listings.{Last-line, Lists};
@@ -12,7 +14,8 @@ use std::alloc::Global;
 
 // A line for each note of the feed, and a last one that says how the feed ends.
 pub fn listing(heap: Global, feed: &[u8]) -> Result<String, AllocError>
-    ensures { λ r. ⌜ made r (λ s. Lists 1 0 (now (feed .entry)) (string-bytes s)) ⌝ }
+    ensures value { λ r. ⌜ made r (λ s. Lists 1 0 (now (feed .entry)) (string-bytes s)) ⌝ }
+    ensures only { λ r. ⌜ made r (λ s. (other : List ℕ) → Lists 1 0 (now (feed .entry)) other → other ≡ string-bytes s) ⌝ }
 {
     let mut text = String::new(heap);
     let mut reader = Reader::new(feed);

@@ -1,28 +1,35 @@
-use mathlib.Core.Path.{sym, ap, _∙_}
-use mathlib.Core.List.{append-nil}
-use lib.Chars.{codes}
+use mathlib.Core.Path.{ap, _∙_}
 use Rattle.std.proofs.shelf.Results.{made-weaker}
-use Rattle.listing.specs.Lines.{note-said}
-use Rattle.listing.proofs.Texts.{entry-said}
+use Rattle.listing.specs.Lines.{building-fields, row-fields, counted-fields, measured-fields, withdrawal-fields}
+use Rattle.listing.proofs.Texts.{said-at}
 use Rattle.listing.proofs.line.said.Needs as need
 
 pub returns-in-Building : need.returns-in-Building
-returns-in-Building c = rw (c .in-Building .is) (c .building .ensures)
+returns-in-Building c =
+    made-weaker (c .building .result) _ _
+    (λ s is bytes says. let told = rw (c .in-Building .is) at says in is ∙ said-at 1 _ bytes (told .0) (ap building-fields (told .1)))
+    (c .building .ensures)
 
 pub returns-in-Factor : need.returns-in-Factor
-returns-in-Factor c = rw (c .in-Factor .is, append-nil) (c .format .ensures .made)
+returns-in-Factor c =
+    made-weaker (c .factor .result) _ _
+    (λ s is bytes says. let told = rw (c .in-Factor .is) at says in is ∙ said-at 2 _ bytes (told .0) (ap row-fields (told .1)))
+    (c .factor .ensures)
 
-pub returns-in-Continue-head : need.returns-in-Continue-head
-returns-in-Continue-head c =
-    let e = c .in-Counted .e in
-    let said = entry-said (codes "entry") _ (e .head) (codes "quantity", e .quantity) (c .in-Continue-head .ensures tt) in
-    made-weaker (c .format-in-Counted .result) _ _ (λ s is. is ∙ said ∙ ap note-said (sym (c .in-Counted .is))) (c .format-in-Counted .ensures .made)
+pub returns-in-Counted : need.returns-in-Counted
+returns-in-Counted c =
+    made-weaker (c .counted .result) _ _
+    (λ s is bytes says. let told = rw (c .in-Counted .is) at says in is ∙ said-at 3 _ bytes (told .0) (ap counted-fields (told .1)))
+    (c .counted .ensures)
 
-pub returns-in-Continue-head-2 : need.returns-in-Continue-head-2
-returns-in-Continue-head-2 c =
-    let e = c .in-Measured .e in
-    let said = entry-said (codes "measured") _ (e .head) (codes "bits", e .bits) (c .in-Continue-head-2 .ensures tt) in
-    made-weaker (c .format-in-Measured .result) _ _ (λ s is. is ∙ said ∙ ap note-said (sym (c .in-Measured .is))) (c .format-in-Measured .ensures .made)
+pub returns-in-Measured : need.returns-in-Measured
+returns-in-Measured c =
+    made-weaker (c .measured .result) _ _
+    (λ s is bytes says. let told = rw (c .in-Measured .is) at says in is ∙ said-at 4 _ bytes (told .0) (ap measured-fields (told .1)))
+    (c .measured .ensures)
 
 pub returns-in-Withdrawal : need.returns-in-Withdrawal
-returns-in-Withdrawal c = rw (c .in-Withdrawal .is, append-nil) (c .format-in-Withdrawal .ensures .made)
+returns-in-Withdrawal c =
+    made-weaker (c .withdrawal .result) _ _
+    (λ s is bytes says. let told = rw (c .in-Withdrawal .is) at says in is ∙ said-at 5 _ bytes (told .0) (ap withdrawal-fields (told .1)))
+    (c .withdrawal .ensures)

@@ -3,6 +3,7 @@ use native.Mathlib.Omega.{arith}
 use lib.ListN.{length}
 use Rattle.feed.proofs.Running.{hands-note}
 use Rattle.listing.proofs.Listed.{none-yet, one-more, no-more}
+use Rattle.listing.proofs.Only.{lists-only}
 use Rattle.listing.proofs.whole.listing.Needs as need
 
 pub loop-part-holds : need.loop-part-holds
@@ -20,10 +21,11 @@ loop-part-less c =
 pub loop-part-again : need.loop-part-again
 loop-part-again c =
     let told = c .in-Note .ensures tt in
-    one-more _ _ _ (c .loop-part .inv) (c .in-Note .part) (c .next .last .self) _ _ _ (told .feed) (told .value) (c .in-Continue-line .ensures tt) (c .in-Continue-push-str .ensures tt .bytes) (c .as-str .ensures .value)
+    one-more _ _ _ (c .loop-part .inv) (c .in-Note .part) (c .next .last .self) _ _ _ (told .feed) (told .value) (c .in-Continue-line .ensures tt .value) (c .in-Continue-push-str .ensures tt .bytes) (c .as-str .ensures .value)
 
 pub returns : need.returns
 returns c =
     let told = c .next .ensures in
     let left = c .left .ensures in
-    no-more _ _ _ (c .loop-part .inv) (c .next .result) (c .next .last .self) (c .left .result) _ _ _ (told .feed) (c .in-rest .not-Note) (told .value) (left .place) (left .start) (left .bytes) (c .in-Continue-last .ensures tt) (c .in-Continue-push-str-2 .ensures tt .bytes) (c .as-str-2 .ensures .value)
+    let value = no-more _ _ _ (c .loop-part .inv) (c .next .result) (c .next .last .self) (c .left .result) _ _ _ (told .feed) (c .in-rest .not-Note) (told .value) (left .place) (left .start) (left .bytes) (c .in-Continue-last .ensures tt) (c .in-Continue-push-str-2 .ensures tt .bytes) (c .as-str-2 .ensures .value) in
+    record { value = value; only = λ other more. lists-only 1 0 _ _ _ more value }

@@ -1,5 +1,5 @@
 use mathlib.Core.List.{append-nil}
-use Rattle.listing.proofs.line.building.Needs as need
+use Rattle.listing.proofs.fields.building.Needs as need
 
 pub returns : need.returns
 returns c = rw (← c .number-region .ensures, ← c .number-building-type .ensures, append-nil) (c .format .ensures .made)
