@@ -1,32 +1,12 @@
 // A building: its climate, its type, its size and its years.
 ghost use Prim.Native.Nat.{_≤_};
 ghost use Rattle.feed.specs.Ranges.{Within};
+use crate::building::building_type::BuildingType;
+use crate::building::region::Region;
 
-mod codes;
+pub mod building_type;
 mod read;
-
-// The climate that a building stands in.
-#[derive(Clone, Copy)]
-pub enum Region {
-    SevereCold = 1,
-    Cold = 2,
-    HotSummerColdWinter = 3,
-    HotSummerWarmWinter = 4,
-    Mild = 5,
-}
-
-// What a building is for.
-#[derive(Clone, Copy)]
-pub enum BuildingType {
-    Residential = 1,
-    SmallOffice = 2,
-    LargeOffice = 3,
-    SmallHotel = 4,
-    LargeHotel = 5,
-    Shop = 6,
-    Hospital = 7,
-    School = 8,
-}
+pub mod region;
 
 // Every building that exists keeps these ranges.
 #[derive(Clone, Copy)]

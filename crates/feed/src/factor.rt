@@ -1,20 +1,10 @@
 // A factor: how much carbon one unit of something stands for.
 ghost use Prim.Native.Nat.{_≤_};
 ghost use Rattle.feed.specs.Ranges.{Within};
+use crate::factor::unit::FactorUnit;
 
 mod read;
-
-// What a factor's amount is per.
-#[derive(Clone, Copy)]
-pub enum FactorUnit {
-    Tonne = 1,
-    CubicMetre = 2,
-    KilowattHour = 3,
-    Kilogram = 4,
-    TonneKilometre = 5,
-    Piece = 6,
-    SquareMetre = 7,
-}
+pub mod unit;
 
 // Every factor that exists keeps its range.
 #[derive(Clone, Copy)]

@@ -7,10 +7,9 @@ ghost use Rattle.feed.specs.Factors.{Row-in-range, Is-row};
 ghost use Rattle.feed.specs.Frames.{Framed, first-note, note-kind};
 ghost use Rattle.feed.specs.Readings.{Reads, ranges};
 ghost use Rattle.feed.specs.Refusals.{Decided};
-ghost use Rattle.feed.specs.Ranges.{Within};
 use crate::factor::Factor;
 use crate::factor::FactorRow;
-use crate::factor::FactorUnit;
+use crate::factor::unit::FactorUnit;
 use crate::frame::note_of_kind;
 use crate::kind::Kind;
 use crate::little::u16_at;
@@ -18,23 +17,6 @@ use crate::little::u32_at;
 use crate::refusal::Refusal;
 
 const AMOUNT_MAX: u32 = 1_000_000_000;
-
-impl FactorUnit {
-    pub fn from_number(n: u16) -> Option<FactorUnit>
-        ensures { λ r. ⌜ Cases r (Within 1 n 7 → ⊥) (λ unit. unit-number unit ≡ n) ⌝ }
-    {
-        match n {
-            1 => Some(FactorUnit::Tonne),
-            2 => Some(FactorUnit::CubicMetre),
-            3 => Some(FactorUnit::KilowattHour),
-            4 => Some(FactorUnit::Kilogram),
-            5 => Some(FactorUnit::TonneKilometre),
-            6 => Some(FactorUnit::Piece),
-            7 => Some(FactorUnit::SquareMetre),
-            _ => None,
-        }
-    }
-}
 
 impl FactorRow {
     // The factor row that the bytes begin with. One that is read is in range.

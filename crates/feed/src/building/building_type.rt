@@ -1,30 +1,20 @@
-// Regions and building types by their numbers.
+// What buildings are for, by the numbers in a feed.
 ghost use mathlib.Core.Path.{_≡_};
 ghost use Rattle.std.specs.Options.{Cases};
-ghost use Rattle.feed.specs.Codes.{region-number, type-number};
+ghost use Rattle.feed.specs.Codes.{type-number};
 ghost use Rattle.feed.specs.Ranges.{Within};
-use crate::building::BuildingType;
-use crate::building::Region;
 
-impl Region {
-    pub fn from_number(n: u16) -> Option<Region>
-        ensures { λ r. ⌜ Cases r (Within 1 n 5 → ⊥) (λ region. region-number region ≡ n) ⌝ }
-    {
-        match n {
-            1 => Some(Region::SevereCold),
-            2 => Some(Region::Cold),
-            3 => Some(Region::HotSummerColdWinter),
-            4 => Some(Region::HotSummerWarmWinter),
-            5 => Some(Region::Mild),
-            _ => None,
-        }
-    }
-
-    pub fn number(self) -> u16
-        ensures { λ r. ⌜ r ≡ region-number self ⌝ }
-    {
-        self as u16
-    }
+// What a building is for.
+#[derive(Clone, Copy)]
+pub enum BuildingType {
+    Residential = 1,
+    SmallOffice = 2,
+    LargeOffice = 3,
+    SmallHotel = 4,
+    LargeHotel = 5,
+    Shop = 6,
+    Hospital = 7,
+    School = 8,
 }
 
 impl BuildingType {
