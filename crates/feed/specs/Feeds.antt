@@ -8,42 +8,61 @@ use Rattle.std.specs.Vec.{Every}
 use Rattle.feed.specs.declared.reader.Next.{Next}
 use Rattle.feed.specs.declared.reader.Next.the-variants.{Note, End, Refused}
 use Rattle.feed.specs.declared.reader.Part.{Part}
+use Rattle.feed.specs.declared.reader.Reader.{Reader}
 use Rattle.feed.specs.Frames.{Framed, One-note, first-note}
 use Rattle.feed.specs.Refusals.{refusal-number}
 
 abbrev pub text : Part → List ℕ
 text p = p .bytes .now
 
--- a reader that has handed out the first s bytes of the feed, in h notes, hands out p, and then has handed out s′ bytes in h′ notes
-pub record Hands (feed : List ℕ) (s h : ℕ) (p : Part) (s′ h′ : ℕ) : Type 0 where
-  pub framed : Framed (drop s feed)
-  pub note : text p ≡ first-note (drop s feed)
-  pub place : p .place ≡ h + 1
-  pub start : p .start ≡ s
-  pub bytes : s′ ≡ s + length (text p)
-  pub notes : h′ ≡ h + 1
+-- what a reader has not handed out yet
+abbrev pub left-of : Reader → List ℕ
+left-of r = drop (r .start) (r .feed .now)
 
--- it cannot, and stays
-pub record Stays (s h s′ h′ : ℕ) : Type 0 where
-  pub bytes : s′ ≡ s
-  pub notes : h′ ≡ h
+-- a reader that has handed out nothing of the feed
+pub record Opened (feed : List ℕ) (r : Reader) : Type 0 where
+  pub over : r .feed .now ≡ feed
+  pub bytes : r .start ≡ 0
+  pub notes : r .handed ≡ 0
 
--- why it answers that there is no note: no byte is left, or what is left cannot be framed
+-- what a reader has not handed out yet, as a part of the feed
+pub record Is-left (r : Reader) (p : Part) : Type 0 where
+  pub place : p .place ≡ r .handed + 1
+  pub start : p .start ≡ r .start
+  pub bytes : text p ≡ left-of r
+
+-- a reader r hands out the next note p, and is t then
+pub record Hands (r : Reader) (p : Part) (t : Reader) : Type 0 where
+  pub framed : Framed (left-of r)
+  pub note : text p ≡ first-note (left-of r)
+  pub place : p .place ≡ r .handed + 1
+  pub start : p .start ≡ r .start
+  pub over : t .feed .now ≡ r .feed .now
+  pub bytes : t .start ≡ r .start + length (text p)
+  pub notes : t .handed ≡ r .handed + 1
+
+-- it hands out nothing
+pub record Stays (r t : Reader) : Type 0 where
+  pub over : t .feed .now ≡ r .feed .now
+  pub bytes : t .start ≡ r .start
+  pub notes : t .handed ≡ r .handed
+
+-- an answer that is no note is true of what is left: no byte is, or no note can be framed
 abbrev pub Spent : Next → List ℕ → Type 0
 Spent (Note p) rest = ⊥
 Spent End rest = rest ≡ []
 Spent (Refused f) rest = (0 < length rest) × (Framed rest → ⊥) × (refusal-number f ≡ 1)
 
 -- one call of a reader
-abbrev pub Answered : List ℕ → ℕ → ℕ → Next → ℕ → ℕ → Type 0
-Answered feed s h (Note p) s′ h′ = Hands feed s h p s′ h′
-Answered feed s h End s′ h′ = Spent End (drop s feed) × Stays s h s′ h′
-Answered feed s h (Refused f) s′ h′ = Spent (Refused f) (drop s feed) × Stays s h s′ h′
+abbrev pub Answered : Reader → Next → Reader → Type 0
+Answered r (Note p) t = Hands r p t
+Answered r End t = Spent End (left-of r) × Stays r t
+Answered r (Refused f) t = Spent (Refused f) (left-of r) × Stays r t
 
--- calls from the opening on, with their answers, the latest first
-pub data Run (feed : List ℕ) : List Next → ℕ → ℕ → Type 0 where
-  opened : Run feed [] 0 0
-  called : {answers : List Next} {s h s′ h′ : ℕ} {a : Next} → Run feed answers s h → Answered feed s h a s′ h′ → Run feed (a ∷ answers) s′ h′
+-- calls of one reader of the feed, from its opening on, with their answers, the latest first
+pub data Run (feed : List ℕ) : List Next → Reader → Type 0 where
+  opened : {r : Reader} → Opened feed r → Run feed [] r
+  called : {before : List Next} {r t : Reader} {a : Next} → Run feed before r → Answered r a t → Run feed (a ∷ before) t
 
 -- the notes among the answers, in the order in which they were handed out
 abbrev pub parts : List Next → List Part

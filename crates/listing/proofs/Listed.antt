@@ -1,53 +1,45 @@
 -- What a turn of `listing` keeps. Assumes nothing.
 use mathlib.Core.Path.{_≡_, refl, sym, ap, subst, _∙_}
-use mathlib.Core.List.{List, [], _∷_, _++_, append-assoc}
+use mathlib.Core.List.{List, [], _++_, append-assoc}
 use Prim.Native.Nat.{ℕ, _+_}
-use lib.ListN.{length, drop}
-use Rattle.std.specs.declared.string.String.{String}
-use Rattle.std.specs.Of.String.{string-bytes}
+use lib.ListN.{length}
 use Rattle.feed.specs.declared.reader.Next.{Next}
 use Rattle.feed.specs.declared.reader.Next.the-variants.{Note}
 use Rattle.feed.specs.declared.reader.Part.{Part}
 use Rattle.feed.specs.declared.reader.Reader.{Reader}
-use Rattle.feed.specs.Feeds.{text, Hands, Answered}
-use Rattle.feed.specs.Frames.{Framed}
-use Rattle.feed.proofs.Running.{hands-next, hands-note, no-note}
+use Rattle.feed.specs.Feeds.{text, left-of, Opened, Hands, Stays, Answered, Is-left}
+use Rattle.feed.proofs.Running.{hands-next, hands-note, stays-left, no-note}
 use Rattle.listing.specs.Lines.{Line}
-use Rattle.listing.specs.Listings.{Lists, note, last, Last-line}
+use Rattle.listing.specs.Listings.{Last-line, Lists, note, last}
 
--- the reader is in the feed, and what it has still to read is all that the listing lacks
-pub record Sofar (feed : List ℕ) (reader : Reader) (listing : List ℕ) : Type 0 where
-  pub same : reader .feed .now ≡ feed
-  pub before : (more : List ℕ) → Lists (reader .handed + 1) (reader .start) (drop (reader .start) feed) more → Lists 1 0 feed (listing ++ more)
+-- what the reader has still to read is all that the listing lacks
+pub record Sofar (feed : List ℕ) (r : Reader) (listing : List ℕ) : Type 0 where
+  pub same : r .feed .now ≡ feed
+  pub before : (more : List ℕ) → Lists (r .handed + 1) (r .start) (left-of r) more → Lists 1 0 feed (listing ++ more)
 
-module _ (feed : List ℕ) (reader : Reader) (listing : List ℕ) where
-  pub none-yet : reader .feed .now ≡ feed → reader .start ≡ 0 → reader .handed ≡ 0 → listing ≡ [] → Sofar feed reader listing
-  none-yet same start handed empty =
-      record { same = same; before = λ more h. rw empty (rw (start, handed) at h) }
+module _ (feed : List ℕ) (r : Reader) (listing : List ℕ) where
+  pub none-yet : Opened feed r → listing ≡ [] → Sofar feed r listing
+  none-yet start empty = record { same = start .over; before = λ more h. rw empty (rw (start .bytes, start .notes, start .over) at h) }
 
-  module _ (old : Sofar feed reader listing) where
+  module _ (old : Sofar feed r listing) where
     -- one note more: its line is pushed as the text `pushed`
-    pub one-more : (p : Part) (next : Reader) (line pushed longer : List ℕ) → next .feed .now ≡ reader .feed .now → Hands (reader .feed .now) (reader .start) (reader .handed) p (next .start) (next .handed) → Line (p .place) (p .start) (text p) line → longer ≡ listing ++ pushed → pushed ≡ line → Sofar feed next longer
-    one-more p next line pushed longer same step told more-text is =
-        let after = drop (next .start) feed in
-        let hands = subst (λ f. Hands f (reader .start) (reader .handed) p (next .start) (next .handed)) (old .same) step in
+    pub one-more : (p : Part) (t : Reader) (line pushed longer : List ℕ) → Hands r p t → Line (p .place) (p .start) (text p) line → longer ≡ listing ++ pushed → pushed ≡ line → Sofar feed t longer
+    one-more p t line pushed longer step told more-text is =
         let joins = more-text ∙ ap (λ l. listing ++ l) is in
         record {
-          same = same ∙ old .same;
+          same = step .over ∙ old .same;
           before = λ more h.
               subst (Lists 1 0 feed) (sym (append-assoc listing line more) ∙ ap (λ l. l ++ more) (sym joins))
               (old .before (line ++ more)
-              (note (text p) after line more (hands-note feed _ _ p _ _ hands) (sym (hands-next feed _ _ p _ _ hands)) (rw (← hands .place, ← hands .start) told)
-              (subst (λ k. Lists (k + 1) (reader .start + length (text p)) after more) (hands .notes) (subst (λ at. Lists (next .handed + 1) at after more) (hands .bytes) h)) refl));
+              (note (text p) (left-of t) line more (hands-note r p t step) (sym (hands-next r p t step)) (rw (← step .place, ← step .start) told)
+              (subst (λ k. Lists (k + 1) (r .start + length (text p)) (left-of t) more) (step .notes) (subst (λ at. Lists (t .handed + 1) at (left-of t) more) (step .bytes) h)) refl));
         }
 
-    -- no note more: the reader stays, and the line for what is left comes last
-    pub no-more : (a : Next) (next : Reader) (left : Part) (line pushed longer : List ℕ) → next .feed .now ≡ reader .feed .now → ((p : Part) → a ≡ Note p → ⊥) → Answered (reader .feed .now) (reader .start) (reader .handed) a (next .start) (next .handed) → left .place ≡ next .handed + 1 → left .start ≡ next .start → text left ≡ drop (next .start) (next .feed .now) → Last-line (left .place) (left .start) (text left) line → longer ≡ listing ++ pushed → pushed ≡ line → Lists 1 0 feed longer
-    no-more a next left line pushed longer same other step place start bytes told more-text is =
-        let none = no-note (reader .feed .now) (reader .start) (reader .handed) a (next .start) (next .handed) other step in
+    -- no note more: the line for what is left comes last
+    pub no-more : (a : Next) (t : Reader) (left : Part) (line pushed longer : List ℕ) → ((p : Part) → a ≡ Note p → ⊥) → Answered r a t → Is-left t left → Last-line (left .place) (left .start) (text left) line → longer ≡ listing ++ pushed → pushed ≡ line → Lists 1 0 feed longer
+    no-more a t left line pushed longer other step is-left told more-text is =
+        let none = no-note r a t other step in
         let stays = none .1 in
-        let rest = bytes ∙ ap (λ s. drop s (next .feed .now)) (stays .bytes) ∙ ap (drop (reader .start)) (same ∙ old .same) in
-        let line-left : Last-line (reader .handed + 1) (reader .start) (drop (reader .start) feed) line =
-        rw (← rest, ← place ∙ ap (λ h. h + 1) (stays .notes), ← start ∙ stays .bytes) told in
-        subst (Lists 1 0 feed) (sym (more-text ∙ ap (λ l. listing ++ l) is))
-        (old .before line (last (subst (λ f. Framed (drop (reader .start) f) → ⊥) (old .same) (none .0)) line-left))
+        let told-left : Last-line (r .handed + 1) (r .start) (left-of r) line =
+        rw (← is-left .bytes ∙ stays-left r t stays, ← is-left .place ∙ ap (λ h. h + 1) (stays .notes), ← is-left .start ∙ stays .bytes) told in
+        subst (Lists 1 0 feed) (sym (more-text ∙ ap (λ l. listing ++ l) is)) (old .before line (last (none .0) told-left))

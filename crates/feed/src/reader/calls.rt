@@ -1,9 +1,7 @@
 // What a reader answers.
-ghost use mathlib.Core.Path.{_≡_};
-ghost use mathlib.Core.List.{List, [], _∷_};
-ghost use Prim.Native.Nat.{_+_};
-ghost use lib.ListN.{drop};
-ghost use Rattle.feed.specs.Feeds.{Answered, Run, Lawful};
+ghost use mathlib.Core.List.{List, _∷_};
+ghost use Prim.Native.Nat.{ℕ};
+ghost use Rattle.feed.specs.Feeds.{Opened, Answered, Run, Lawful, left-of, Is-left};
 use crate::frame::first_note;
 use crate::reader::Next;
 use crate::reader::Part;
@@ -11,10 +9,7 @@ use crate::reader::Reader;
 
 impl<'a> Reader<'a> {
     pub fn new(feed: &'a [u8]) -> Reader<'a>
-        ensures feed { λ r. ⌜ now (r .feed) ≡ now (feed .entry) ⌝ }
-        ensures start { λ r. ⌜ r .start ≡ 0 ⌝ }
-        ensures handed { λ r. ⌜ r .handed ≡ 0 ⌝ }
-        ensures opened { λ r. ⌜ Run (now (feed .entry)) [] (r .start) (r .handed) ⌝ }
+        ensures { λ r. ⌜ Opened (now (feed .entry)) r ⌝ }
     {
         Reader {
             feed,
@@ -25,9 +20,8 @@ impl<'a> Reader<'a> {
 
     // The next note. Where there is none, the reader stays, and answers the same again.
     pub fn next(&mut self) -> Next<'a>
-        ensures feed { λ _. ⌜ now (now (self .exit) .feed) ≡ now (now (self .entry) .feed) ⌝ }
-        ensures value { λ r. ⌜ Answered (now (now (self .entry) .feed)) (now (self .entry) .start) (now (self .entry) .handed) r (now (self .exit) .start) (now (self .exit) .handed) ⌝ }
-        ensures law { λ r. ⌜ ((before : List Next) → Run (now (now (self .entry) .feed)) before (now (self .entry) .start) (now (self .entry) .handed) → Lawful (now (now (self .entry) .feed)) (r ∷ before) (drop (now (self .exit) .start) (now (now (self .entry) .feed)))) ⌝ }
+        ensures value { λ r. ⌜ Answered (now (self .entry)) r (now (self .exit)) ⌝ }
+        ensures law { λ r. ⌜ ((feed : List ℕ) (before : List Next) → Run feed before (now (self .entry)) → Lawful feed (r ∷ before) (left-of (now (self .exit)))) ⌝ }
     {
         if self.start == self.feed.len() {
             return Next::End;
@@ -48,9 +42,7 @@ impl<'a> Reader<'a> {
 
     // What is not handed out yet, at the place of the next note.
     pub fn left(&self) -> Part<'a>
-        ensures place { λ r. ⌜ r .place ≡ now (self .entry) .handed + 1 ⌝ }
-        ensures start { λ r. ⌜ r .start ≡ now (self .entry) .start ⌝ }
-        ensures bytes { λ r. ⌜ now (r .bytes) ≡ drop (now (self .entry) .start) (now (now (self .entry) .feed)) ⌝ }
+        ensures { λ r. ⌜ Is-left (now (self .entry)) r ⌝ }
     {
         Part {
             place: self.handed + 1,

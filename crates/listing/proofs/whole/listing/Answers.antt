@@ -7,25 +7,21 @@ use Rattle.listing.proofs.Only.{lists-only}
 use Rattle.listing.proofs.whole.listing.Needs as need
 
 pub loop-part-holds : need.loop-part-holds
-loop-part-holds c =
-    let new = c .new-reader .ensures in
-    none-yet _ _ _ (new .feed) (new .start) (new .handed) (c .new-text .ensures .bytes)
+loop-part-holds c = none-yet _ _ _ (c .new-reader .ensures) (c .new-text .ensures .bytes)
 
 pub loop-part-less : need.loop-part-less
 loop-part-less c =
-    let told = c .in-Note .ensures tt in
-    let note = hands-note _ _ _ _ _ _ (told .value) in
-    let whole = ap length (told .feed ∙ c .loop-part .inv .same) in
-    omega (arith, c .next .last .self .within, told .value .bytes, note .head)
+    let step = c .in-Note .ensures tt .value in
+    let note = hands-note _ _ _ step in
+    let whole = ap length (step .over ∙ c .loop-part .inv .same) in
+    omega (arith, c .next .last .self .within, step .bytes, note .head)
 
 pub loop-part-again : need.loop-part-again
 loop-part-again c =
-    let told = c .in-Note .ensures tt in
-    one-more _ _ _ (c .loop-part .inv) (c .in-Note .part) (c .next .last .self) _ _ _ (told .feed) (told .value) (c .in-Continue-line .ensures tt .value) (c .in-Continue-push-str .ensures tt .bytes) (c .as-str .ensures .value)
+    one-more _ _ _ (c .loop-part .inv) (c .in-Note .part) (c .next .last .self) _ _ _ (c .in-Note .ensures tt .value) (c .in-Continue-line .ensures tt .value) (c .in-Continue-push-str .ensures tt .bytes) (c .as-str .ensures .value)
 
 pub returns : need.returns
 returns c =
-    let told = c .next .ensures in
-    let left = c .left .ensures in
-    let value = no-more _ _ _ (c .loop-part .inv) (c .next .result) (c .next .last .self) (c .left .result) _ _ _ (told .feed) (c .in-rest .not-Note) (told .value) (left .place) (left .start) (left .bytes) (c .in-Continue-last .ensures tt) (c .in-Continue-push-str-2 .ensures tt .bytes) (c .as-str-2 .ensures .value) in
+    let value =
+    no-more _ _ _ (c .loop-part .inv) (c .next .result) (c .next .last .self) (c .left .result) _ _ _ (c .in-rest .not-Note) (c .next .ensures .value) (c .left .ensures) (c .in-Continue-last .ensures tt) (c .in-Continue-push-str-2 .ensures tt .bytes) (c .as-str-2 .ensures .value) in
     record { value = value; only = λ other more. lists-only 1 0 _ _ _ more value }

@@ -1,4 +1,4 @@
-use mathlib.Core.Path.{_≡_, refl, ap, subst, _∙_}
+use mathlib.Core.Path.{refl, ap, subst, _∙_}
 use mathlib.Core.Logic.{⊎-elim}
 use mathlib.Core.List.{_∷_}
 use Prim.Native.Nat.{_+_, _<_}
@@ -16,10 +16,9 @@ use Rattle.feed.proofs.reader.Reader.next.Needs as need
 pub returns-then-self : need.returns-then-self
 returns-then-self c =
     let self = c .args .self .now in
-    let feed = self .feed .now in
-    let told : Answered feed (self .start) (self .handed) (End) (self .start) (self .handed) =
-    (drop-all (self .start) feed (omega arith), record { bytes = refl; notes = refl }) in
-    record { feed = refl; value = told; law = λ before run. lawful feed (End ∷ before) _ _ (called run told) }
+    let told : Answered self End self =
+    (drop-all (self .start) (self .feed .now) (omega arith), record { over = refl; bytes = refl; notes = refl }) in
+    record { value = told; law = λ feed before run. lawful feed (End ∷ before) _ (called run told) }
 
 pub returns-in-Err : need.returns-in-Err
 returns-in-Err c =
@@ -29,9 +28,9 @@ returns-in-Err c =
     let refusal = c .in-Err .refusal in
     let some : 0 < length (drop (self .start) feed) = rw length-drop (omega (arith, self .within, c .if-self .left)) in
     let least = c .in-Err .ensures tt .0 in
-    let told : Answered feed (self .start) (self .handed) (Refused refusal) (self .start) (self .handed) =
-    ((some, ⊎-elim (λ e. subst (λ bs. Framed bs → ⊥) rest (e .1)) absurd least, ⊎-elim (λ e. e .0) absurd least), record { bytes = refl; notes = refl }) in
-    record { feed = refl; value = told; law = λ before run. lawful feed (Refused refusal ∷ before) _ _ (called run told) }
+    let told : Answered self (Refused refusal) self =
+    ((some, ⊎-elim (λ e. subst (λ bs. Framed bs → ⊥) rest (e .1)) absurd least, ⊎-elim (λ e. e .0) absurd least), record { over = refl; bytes = refl; notes = refl }) in
+    record { value = told; law = λ feed before run. lawful feed (Refused refusal ∷ before) _ (called run told) }
 
 pub ghost-self : need.ghost-self
 ghost-self c =
@@ -48,18 +47,18 @@ ghost-self c =
 pub returns : need.returns
 returns c =
     let self = c .args .self .now in
-    let feed = self .feed .now in
     let bytes = c .in-Ok .bytes in
-    let rest = take-rest feed (self .start) in
+    let rest = take-rest (self .feed .now) (self .start) in
     let step = c .in-Ok .ensures tt in
     let part : Part = record { place = self .handed + 1; start = self .start; bytes = bytes } in
-    let told : Hands feed (self .start) (self .handed) part (self .start + length (bytes .now)) (self .handed + 1) =
+    let told : Hands self part _ =
     record {
       framed = subst Framed rest (step .0 .0);
       note = step .1 ∙ ap first-note rest;
       place = refl;
       start = refl;
+      over = refl;
       bytes = refl;
       notes = refl;
     } in
-    record { feed = refl; value = told; law = λ before run. lawful feed (Note part ∷ before) _ _ (called run told) }
+    record { value = told; law = λ feed before run. lawful feed (Note part ∷ before) _ (called run told) }
