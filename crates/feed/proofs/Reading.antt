@@ -8,7 +8,7 @@ use lib.ListN.{length}
 use Rattle.std.specs.declared.result.Result.{Result}
 use Rattle.std.specs.declared.result.Result.the-variants.{Err}
 use Rattle.feed.specs.declared.refusal.Refusal.{Refusal}
-use Rattle.feed.specs.Frames.{Framed, first-note, note-kind, note-size}
+use Rattle.feed.specs.Frames.{Framed, first-note, note-kind, note-length}
 use Rattle.feed.specs.Readings.{framing, shape, ranges, Reads}
 use Rattle.feed.specs.Refusals.{refusal-number, Conditions, Kept, Least, Decided}
 use Rattle.feed.proofs.Deciding.{least-stop, decided-on, decided-off}

@@ -6,7 +6,7 @@ use Rattle.feed.specs.declared.building.Building.{Building}
 use Rattle.feed.specs.declared.building.BuildingNumbers.{BuildingNumbers}
 use Rattle.feed.specs.Codes.{region-number, type-number}
 use Rattle.feed.specs.Fields.{field}
-use Rattle.feed.specs.Ranges.{Within}
+use Rattle.feed.specs.Ranges.{Area-range, Life-range, Region-range, Sun-range, Type-range, Reference-range}
 
 abbrev pub building-numbers : List ℕ → BuildingNumbers
 building-numbers note = record {
@@ -19,12 +19,12 @@ building-numbers note = record {
 }
 
 pub record Building-in-range (b : BuildingNumbers) : Type 0 where
-  pub area : Within 1 (b .area) 100000000
-  pub life : Within 1 (b .life) 100
-  pub region : Within 1 (b .region) 5
-  pub sun : Within 1 (b .sun) 4
-  pub building-type : Within 1 (b .«building_type») 8
-  pub reference : Within 0 (b .reference) 10000
+  pub area : Area-range (b .area)
+  pub life : Life-range (b .life)
+  pub region : Region-range (b .region)
+  pub sun : Sun-range (b .sun)
+  pub building-type : Type-range (b .«building_type»)
+  pub reference : Reference-range (b .reference)
 
 -- a building by its numbers
 abbrev pub numbers-of : Building → BuildingNumbers

@@ -1,11 +1,11 @@
--- The numbers that a feed has for regions, building types and units. Assumes nothing.
+-- The numbers that a feed has for kinds of notes, regions, building types and units. Assumes nothing.
 use Prim.Native.Nat.{ℕ}
-use Rattle.feed.specs.declared.building.region.Region.{Region}
-use Rattle.feed.specs.declared.building.region.Region.the-variants.{SevereCold, Cold, HotSummerColdWinter, HotSummerWarmWinter, Mild}
-use Rattle.feed.specs.declared.building.building_type.BuildingType.{BuildingType}
-use Rattle.feed.specs.declared.building.building_type.BuildingType.the-variants.{Residential, SmallOffice, LargeOffice, SmallHotel, LargeHotel, Shop, Hospital, School}
-use Rattle.feed.specs.declared.factor.unit.FactorUnit.{FactorUnit}
-use Rattle.feed.specs.declared.factor.unit.FactorUnit.the-variants.{Tonne, CubicMetre, KilowattHour, Kilogram, TonneKilometre, Piece, SquareMetre}
+use Rattle.feed.specs.declared.building.regions.Region.{Region}
+use Rattle.feed.specs.declared.building.regions.Region.the-variants.{SevereCold, Cold, HotSummerColdWinter, HotSummerWarmWinter, Mild}
+use Rattle.feed.specs.declared.building.types.BuildingType.{BuildingType}
+use Rattle.feed.specs.declared.building.types.BuildingType.the-variants.{Residential, SmallOffice, LargeOffice, SmallHotel, LargeHotel, Shop, Hospital, School}
+use Rattle.feed.specs.declared.factor.units.FactorUnit.{FactorUnit}
+use Rattle.feed.specs.declared.factor.units.FactorUnit.the-variants.{Tonne, CubicMetre, KilowattHour, Kilogram, TonneKilometre, Piece, SquareMetre}
 use Rattle.feed.specs.declared.kind.Kind.{Kind}
 use Rattle.feed.specs.declared.kind.Kind.the-variants.{Building, Factor, Counted, Measured, Withdrawal}
 

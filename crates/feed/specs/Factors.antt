@@ -4,15 +4,15 @@ use mathlib.Core.List.{List}
 use Prim.Native.Nat.{ℕ}
 use Rattle.feed.specs.declared.factor.FactorRow.{FactorRow}
 use Rattle.feed.specs.Fields.{field}
-use Rattle.feed.specs.Ranges.{Within}
+use Rattle.feed.specs.Ranges.{Amount-range, Unit-range}
 
 abbrev pub factor-row : List ℕ → FactorRow
 factor-row note = record { code = field note 4 4; amount = field note 8 4; unit = field note 12 2 }
 
-pub record Row-in-range (row : FactorRow) : Type 0 where
-  pub amount : Within 0 (row .amount) 1000000000
-  pub unit : Within 1 (row .unit) 7
+pub record Factor-in-range (row : FactorRow) : Type 0 where
+  pub amount : Amount-range (row .amount)
+  pub unit : Unit-range (row .unit)
 
 -- the factor row of a note
-abbrev pub Is-row : List ℕ → FactorRow → Type 0
-Is-row note row = row ≡ factor-row note
+abbrev pub Is-factor-row : List ℕ → FactorRow → Type 0
+Is-factor-row note row = row ≡ factor-row note

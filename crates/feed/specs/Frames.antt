@@ -24,6 +24,6 @@ pub record One-note (note : List ℕ) : Type 0 where
 abbrev pub note-kind : List ℕ → ℕ
 note-kind note = field note 2 2
 
--- how many bytes a note of each kind has
-abbrev pub note-size : ℕ → ℕ
-note-size k = getD (0 ∷ 18 ∷ 14 ∷ 28 ∷ 28 ∷ 12 ∷ []) k 0
+-- how many bytes a note of each kind has; 0, which no note has, where there is no such kind
+abbrev pub note-length : ℕ → ℕ
+note-length k = getD (0 ∷ 18 ∷ 14 ∷ 28 ∷ 28 ∷ 12 ∷ []) k 0

@@ -6,8 +6,8 @@ use lib.ListN.{length}
 use Rattle.std.specs.declared.result.Result.{Result}
 use Rattle.feed.specs.declared.refusal.Refusal.{Refusal}
 use Rattle.feed.specs.Buildings.{building-numbers, Building-in-range}
-use Rattle.feed.specs.Factors.{factor-row, Row-in-range}
-use Rattle.feed.specs.Frames.{Framed, first-note, note-kind, note-size}
+use Rattle.feed.specs.Factors.{factor-row, Factor-in-range}
+use Rattle.feed.specs.Frames.{Framed, first-note, note-kind, note-length}
 use Rattle.feed.specs.Refusals.{Conditions, Decided}
 
 -- bytes have a first note
@@ -16,12 +16,12 @@ framing bs = (1, Framed bs) ∷ []
 
 -- a note has the form of a kind that is wanted
 abbrev pub shape : (ℕ → Type 0) → List ℕ → Conditions
-shape Wanted note = (2, Wanted (note-kind note)) ∷ (3, length note ≡ note-size (note-kind note)) ∷ []
+shape Wanted note = (2, Wanted (note-kind note)) ∷ (3, length note ≡ note-length (note-kind note)) ∷ []
 
 -- a building and a factor row have their numbers in range; of the other kinds nothing is asked here
 pub record In-range (note : List ℕ) : Type 0 where
   pub building : note-kind note ≡ 1 → Building-in-range (building-numbers note)
-  pub factor : note-kind note ≡ 2 → Row-in-range (factor-row note)
+  pub factor : note-kind note ≡ 2 → Factor-in-range (factor-row note)
 
 abbrev pub ranges : List ℕ → Conditions
 ranges note = (4, In-range note) ∷ []

@@ -1,12 +1,12 @@
 // A building: its climate, its type, its size and its years.
-ghost use Prim.Native.Nat.{_≤_};
-ghost use Rattle.feed.specs.Ranges.{Within};
-use crate::building::building_type::BuildingType;
-use crate::building::region::Region;
+ghost use Rattle.feed.specs.Ranges.{Area-range, Life-range, Sun-range, Reference-range};
 
-pub mod building_type;
 mod read;
-pub mod region;
+mod regions;
+mod types;
+
+pub use regions::Region;
+pub use types::BuildingType;
 
 // Every building that exists keeps these ranges.
 #[derive(Clone, Copy)]
@@ -16,15 +16,15 @@ pub struct Building {
     // in years
     pub life: u16,
     pub region: Region,
-    // the class of sunshine where it stands
+    // the class of solar irradiation where it stands
     pub sun: u16,
     pub building_type: BuildingType,
     // the reference intensity, in tenths of a kilogram per square metre and year; 0 where there is none
     pub reference: u16,
-    ghost area_within: { Within 1 area 100000000 },
-    ghost life_within: { Within 1 life 100 },
-    ghost sun_within: { Within 1 sun 4 },
-    ghost reference_within: { Within 0 reference 10000 },
+    ghost area_within: { Area-range area },
+    ghost life_within: { Life-range life },
+    ghost sun_within: { Sun-range sun },
+    ghost reference_within: { Reference-range reference },
 }
 
 // The numbers of a building as they came: any of them may be out of range.

@@ -1,10 +1,10 @@
 // A factor: how much carbon one unit of something stands for.
-ghost use Prim.Native.Nat.{_≤_};
-ghost use Rattle.feed.specs.Ranges.{Within};
-use crate::factor::unit::FactorUnit;
+ghost use Rattle.feed.specs.Ranges.{Amount-range};
 
 mod read;
-pub mod unit;
+mod units;
+
+pub use units::FactorUnit;
 
 // Every factor that exists keeps its range.
 #[derive(Clone, Copy)]
@@ -12,7 +12,7 @@ pub struct Factor {
     // in tenths of a gram of carbon dioxide equivalent
     pub amount: u32,
     pub unit: FactorUnit,
-    ghost amount_within: { Within 0 amount 1000000000 },
+    ghost amount_within: { Amount-range amount },
 }
 
 // A row of a list of factors as it came: its amount and its unit may be out of range.

@@ -13,17 +13,17 @@ use crate::little::u16_at;
 use crate::refusal::Refusal;
 
 // A note's length and its kind, two bytes each, come before its fields.
-const HEAD: usize = 4;
+const HEAD_LENGTH: usize = 4;
 
 // The note that the bytes begin with, as a part of them.
 pub fn first_note(bytes: &[u8]) -> Result<&[u8], Refusal>
     ensures { λ r. ⌜ Decided (framing (now (bytes .entry))) (λ note. now note ≡ first-note (now (bytes .entry))) r ⌝ }
 {
-    if bytes.len() < HEAD {
+    if bytes.len() < HEAD_LENGTH {
         return Err(Refusal::Unframed);
     }
     let len = usize::from(u16_at(bytes, 0));
-    if len < HEAD || len > bytes.len() {
+    if len < HEAD_LENGTH || len > bytes.len() {
         return Err(Refusal::Unframed);
     }
     Ok(&bytes[0..len])
@@ -64,7 +64,7 @@ pub(crate) fn note_of_kind(bytes: &[u8], kind: Kind) -> Result<&[u8], Refusal>
     if kind_of(note) != kind.number() {
         return Err(Refusal::UnwantedKind);
     }
-    if note.len() != kind.size() {
+    if note.len() != kind.length() {
         return Err(Refusal::WrongLength);
     }
     Ok(note)

@@ -2,8 +2,8 @@
 ghost use mathlib.Core.Path.{_≡_};
 ghost use Rattle.std.specs.Options.{Cases};
 ghost use Rattle.feed.specs.Codes.{kind-number};
-ghost use Rattle.feed.specs.Frames.{note-size};
-ghost use Rattle.feed.specs.Ranges.{Within};
+ghost use Rattle.feed.specs.Frames.{note-length};
+ghost use Rattle.feed.specs.Ranges.{Kind-range};
 
 #[derive(Clone, Copy)]
 pub enum Kind {
@@ -16,7 +16,7 @@ pub enum Kind {
 
 impl Kind {
     pub fn from_number(n: u16) -> Option<Kind>
-        ensures { λ r. ⌜ Cases r (Within 1 n 5 → ⊥) (λ kind. kind-number kind ≡ n) ⌝ }
+        ensures { λ r. ⌜ Cases r (Kind-range n → ⊥) (λ kind. kind-number kind ≡ n) ⌝ }
     {
         match n {
             1 => Some(Kind::Building),
@@ -35,8 +35,8 @@ impl Kind {
     }
 
     // How many bytes a note of this kind has.
-    pub fn size(self) -> usize
-        ensures { λ r. ⌜ r ≡ note-size (kind-number self) ⌝ }
+    pub fn length(self) -> usize
+        ensures { λ r. ⌜ r ≡ note-length (kind-number self) ⌝ }
     {
         match self {
             Kind::Building => 18,

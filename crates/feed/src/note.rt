@@ -4,8 +4,9 @@ ghost use mathlib.Core.List.{_++_};
 ghost use Prim.Native.Nat.{_≤_};
 ghost use lib.ListN.{length};
 ghost use Rattle.feed.specs.Codes.{kind-number};
-ghost use Rattle.feed.specs.Frames.{Framed, first-note, note-kind, note-size};
-ghost use Rattle.feed.specs.Notes.{Known, Says};
+ghost use Rattle.feed.specs.Frames.{Framed, first-note, note-kind, note-length};
+ghost use Rattle.feed.specs.Notes.{Says};
+ghost use Rattle.feed.specs.Ranges.{Kind-range};
 ghost use Rattle.feed.specs.Readings.{Reads, shape, ranges};
 ghost use Rattle.feed.specs.Refusals.{Decided};
 use crate::building::Building;
@@ -30,28 +31,29 @@ pub enum Note {
 impl Note {
     // The first note of the bytes, whatever its kind.
     pub fn read(bytes: &[u8]) -> Result<Note, Refusal>
-        ensures value { λ r. ⌜ Reads Known Says (now (bytes .entry)) r ⌝ }
-        ensures alone { λ r. ⌜ (Framed (now (bytes .entry)) → Reads Known Says (first-note (now (bytes .entry))) r) ⌝ }
+        ensures value { λ r. ⌜ Reads Kind-range Says (now (bytes .entry)) r ⌝ }
+        ensures alone { λ r. ⌜ (Framed (now (bytes .entry)) → Reads Kind-range Says (first-note (now (bytes .entry))) r) ⌝ }
     {
         Note::from_note(first_note(bytes)?)
     }
 
     fn from_note(note: &[u8]) -> Result<Note, Refusal>
         requires { ⌜ 4 ≤ length (now note) ⌝ }
-        ensures { λ r. ⌜ Decided (shape Known (now (note .entry)) ++ ranges (now (note .entry))) (Says (now (note .entry))) r ⌝ }
+        ensures { λ r. ⌜ Decided (shape Kind-range (now (note .entry)) ++ ranges (now (note .entry))) (Says (now (note .entry))) r ⌝ }
     {
         let Some(kind) = Kind::from_number(kind_of(note)) else {
             return Err(Refusal::UnwantedKind);
         };
-        if note.len() != kind.size() {
+        if note.len() != kind.length() {
             return Err(Refusal::WrongLength);
         }
         Note::of_kind(kind, note)
     }
+
     // A note that is as long as its kind asks.
     fn of_kind(kind: Kind, note: &[u8]) -> Result<Note, Refusal>
         requires kind { ⌜ note-kind (now note) ≡ kind-number kind ⌝ }
-        requires length { ⌜ length (now note) ≡ note-size (kind-number kind) ⌝ }
+        requires length { ⌜ length (now note) ≡ note-length (kind-number kind) ⌝ }
         ensures { λ r. ⌜ Decided (ranges (now (note .entry))) (Says (now (note .entry))) r ⌝ }
     {
         match kind {

@@ -5,10 +5,10 @@ use crate::refusal::Refusal;
 
 mod calls;
 
-// A note as a part of the feed.
+// A part of the feed: a note, or what is left after the last one.
 #[derive(Clone, Copy)]
 pub struct Part<'a> {
-    // the note's place among the notes of the feed, from 1
+    // its place among the notes of the feed, from 1
     pub place: usize,
     // how many bytes of the feed come before it
     pub start: usize,
@@ -23,8 +23,8 @@ pub enum Next<'a> {
     Refused(Refusal),
 }
 
-// Reads the caller's bytes where they lie.
-#[derive(Clone, Copy)]
+// Reads the caller's bytes where they lie. It is no `Copy`, since a copy would hand out its notes again.
+#[derive(Drop)]
 pub struct Reader<'a> {
     feed: &'a [u8],
     // how many bytes have been handed out

@@ -5,13 +5,13 @@ ghost use Rattle.feed.specs.Refusals.{refusal-number};
 // Each refusal has a number, and where several hold the smallest is told.
 #[derive(Clone, Copy, Debug, PartialEq, Eq)]
 pub enum Refusal {
-    // Fewer than four bytes are left, or the length is below 4 or beyond the bytes left.
+    // No note can be told from the bytes: they are too few for its head, or for the length that it gives.
     Unframed = 1,
-    // The kind is not one that is wanted here.
+    // The note is of another kind than the call reads.
     UnwantedKind = 2,
-    // The length is not that of the kind.
+    // The note is longer or shorter than its kind.
     WrongLength = 3,
-    // A field of a building or of a factor row is out of range.
+    // A number of a building or of a factor row is out of range.
     OutOfRange = 4,
 }
 

@@ -1,178 +1,26 @@
 // Listings, written by hand from the format.
-use listing::whole::listing;
+use listing::listing;
 use std::test::*;
 
 #[test]
 fn of_no_bytes(rt: LibcRuntime) -> Result<(), Fail> {
-    check_eq(listing(rt.alloc(), &[])?.as_str(), "end at=0\n")
+    check_eq(listing(rt.alloc(), b"")?.as_str(), "end at=0\n")
 }
 
-// Every kind with the largest fields, and every refusal.
+// Every kind, with fields at their largest; every refusal; and last a note that says 27 bytes where 15 are left.
 #[test]
 fn of_a_damaged_feed(rt: LibcRuntime) -> Result<(), Fail> {
-    let feed: [u8; 155] = [
-        // a building of 17 bytes
-        17,
-        0,
-        1,
-        0,
-        1,
-        0,
-        0,
-        0,
-        1,
-        0,
-        1,
-        0,
-        1,
-        0,
-        1,
-        0,
-        0, //
-        // a factor row with the unit 8
-        14,
-        0,
-        2,
-        0,
-        1,
-        2,
-        0,
-        0,
-        0,
-        0,
-        0,
-        0,
-        8,
-        0, //
-        // kind 6, and kind 258
-        4,
-        0,
-        6,
-        0, //
-        5,
-        0,
-        2,
-        1,
-        9, //
-        // an entry, a measured entry of 0.5 and a withdrawal
-        28,
-        0,
-        3,
-        0,
-        0xFF,
-        0xFF,
-        0xFF,
-        0xFF,
-        0xFE,
-        0xFF,
-        0xFF,
-        0xFF,
-        0xFF,
-        0xFF,
-        0xFE,
-        0xFF,
-        0xFF,
-        0xFF,
-        0xFF,
-        0xFF,
-        0xFF,
-        0xFF,
-        0xFF,
-        0xFF,
-        0xFF,
-        0xFF,
-        0xFF,
-        0xFF, //
-        28,
-        0,
-        4,
-        0,
-        1,
-        0,
-        0,
-        0,
-        2,
-        0,
-        0,
-        0,
-        3,
-        0,
-        4,
-        0,
-        5,
-        0,
-        0,
-        0,
-        0,
-        0,
-        0,
-        0,
-        0,
-        0,
-        0xE0,
-        0x3F, //
-        12,
-        0,
-        5,
-        0,
-        4,
-        3,
-        2,
-        1,
-        8,
-        7,
-        6,
-        5, //
-        // the largest building, and the largest factor row
-        18,
-        0,
-        1,
-        0,
-        0x00,
-        0xE1,
-        0xF5,
-        0x05,
-        100,
-        0,
-        5,
-        0,
-        4,
-        0,
-        8,
-        0,
-        0x10,
-        0x27, //
-        14,
-        0,
-        2,
-        0,
-        0xFF,
-        0xFF,
-        0xFF,
-        0xFF,
-        0x00,
-        0xCA,
-        0x9A,
-        0x3B,
-        7,
-        0, //
-        // an entry that is one byte short, and what follows
-        27,
-        0,
-        3,
-        0,
-        0,
-        0,
-        0,
-        0,
-        0,
-        0,
-        0,
-        0,
-        0,
-        0,
-        0,
-    ];
+    let feed = b"\
+\x11\0\x01\0\x01\0\0\0\x01\0\x01\0\x01\0\x01\0\0\
+\x0e\0\x02\0\x01\x02\0\0\0\0\0\0\x08\0\
+\x04\0\x06\0\
+\x05\0\x02\x01\x09\
+\x1c\0\x03\0\xff\xff\xff\xff\xfe\xff\xff\xff\xff\xff\xfe\xff\xff\xff\xff\xff\xff\xff\xff\xff\xff\xff\xff\xff\
+\x1c\0\x04\0\x01\0\0\0\x02\0\0\0\x03\0\x04\0\x05\0\0\0\0\0\0\0\0\0\xe0\x3f\
+\x0c\0\x05\0\x04\x03\x02\x01\x08\x07\x06\x05\
+\x12\0\x01\0\0\xe1\xf5\x05\x64\0\x05\0\x04\0\x08\0\x10\x27\
+\x0e\0\x02\0\xff\xff\xff\xff\0\xca\x9a\x3b\x07\0\
+\x1b\0\x03\0\0\0\0\0\0\0\0\0\0\0\0";
     let expected = "\
 1 at=0 building kind=1 length=17 refused 3
 2 at=17 factor kind=2 length=14 refused 4
@@ -185,5 +33,5 @@ fn of_a_damaged_feed(rt: LibcRuntime) -> Result<(), Fail> {
 9 at=126 factor code=4294967295 amount=1000000000 unit=7
 10 at=140 unframed left=15 refused 1
 ";
-    check_eq(listing(rt.alloc(), &feed)?.as_str(), expected)
+    check_eq(listing(rt.alloc(), feed)?.as_str(), expected)
 }

@@ -12,7 +12,8 @@ use Rattle.std.specs.Written.{decimal}
 use Rattle.feed.specs.declared.note.Note.{Note}
 use Rattle.feed.specs.declared.refusal.Refusal.{Refusal}
 use Rattle.feed.specs.Frames.{Framed}
-use Rattle.feed.specs.Notes.{Known, Says}
+use Rattle.feed.specs.Notes.{Says}
+use Rattle.feed.specs.Ranges.{Kind-range}
 use Rattle.feed.specs.Readings.{readable, Reads}
 use Rattle.feed.specs.Refusals.{refusal-number}
 use Rattle.feed.proofs.Deciding.{least-only, unbroken}
@@ -26,12 +27,12 @@ refused-only bs m n s t same a b =
     ⊎-elim (λ framed. a′ .note framed ∙ sym (b .note framed)) (λ unframed. a′ .unframed unframed ∙ sym (b .unframed unframed)) (framed-or-not bs)
 
 -- what is said of bytes depends on them alone
-said-only : (bs s t : List ℕ) (a b : Result Note Refusal) → Reads Known Says bs a → Reads Known Says bs b → Said bs a s → Said bs b t → s ≡ t
+said-only : (bs s t : List ℕ) (a b : Result Note Refusal) → Reads Kind-range Says bs a → Reads Kind-range Says bs b → Said bs a s → Said bs b t → s ≡ t
 said-only bs s t (Ok m) (Ok n) reads reads′ said said′ = said ∙ sym said′
-said-only bs s t (Ok m) (Err g) reads reads′ said said′ = absurd (unbroken (readable Known bs) (reads .0) _ (reads′ .0))
-said-only bs s t (Err f) (Ok n) reads reads′ said said′ = absurd (unbroken (readable Known bs) (reads′ .0) _ (reads .0))
+said-only bs s t (Ok m) (Err g) reads reads′ said said′ = absurd (unbroken (readable Kind-range bs) (reads .0) _ (reads′ .0))
+said-only bs s t (Err f) (Ok n) reads reads′ said said′ = absurd (unbroken (readable Kind-range bs) (reads′ .0) _ (reads .0))
 said-only bs s t (Err f) (Err g) reads reads′ said said′ =
-    refused-only bs (refusal-number f) (refusal-number g) s t (least-only (readable Known bs) _ _ reads reads′) said said′
+    refused-only bs (refusal-number f) (refusal-number g) s t (least-only (readable Kind-range bs) _ _ reads reads′) said said′
 
 pub line-only : (k at : ℕ) (bs l m : List ℕ) → Line k at bs l → Line k at bs m → l ≡ m
 line-only k at bs l m a b =

@@ -20,7 +20,8 @@ use Rattle.feed.specs.Buildings.{building-numbers}
 use Rattle.feed.specs.Entries.{counted, measured, withdrawal}
 use Rattle.feed.specs.Factors.{factor-row}
 use Rattle.feed.specs.Frames.{Framed, first-note, note-kind}
-use Rattle.feed.specs.Notes.{Known, Says}
+use Rattle.feed.specs.Notes.{Says}
+use Rattle.feed.specs.Ranges.{Kind-range}
 use Rattle.feed.specs.Readings.{Reads}
 use Rattle.feed.specs.Refusals.{refusal-number}
 
@@ -41,8 +42,8 @@ building-fields b =
     (codes "area", b .area) ∷ (codes "life", b .life) ∷ (codes "region", b .region) ∷ (codes "sun", b .sun)
     ∷ (codes "type", b .«building_type») ∷ (codes "reference", b .reference) ∷ []
 
-abbrev pub row-fields : FactorRow → List Named
-row-fields row = (codes "code", row .code) ∷ (codes "amount", row .amount) ∷ (codes "unit", row .unit) ∷ []
+abbrev pub factor-fields : FactorRow → List Named
+factor-fields row = (codes "code", row .code) ∷ (codes "amount", row .amount) ∷ (codes "unit", row .unit) ∷ []
 
 abbrev pub head-fields : EntryHead → List Named
 head-fields e =
@@ -61,7 +62,7 @@ withdrawal-fields w = (codes "number", w .number) ∷ (codes "revision", w .revi
 -- the fields of a note of the kind k
 abbrev pub kind-fields : ℕ → List ℕ → List Named
 kind-fields k note =
-    getD ([] ∷ building-fields (building-numbers note) ∷ row-fields (factor-row note) ∷ counted-fields (counted note) ∷ measured-fields (measured note) ∷ withdrawal-fields (withdrawal note) ∷ []) k []
+    getD ([] ∷ building-fields (building-numbers note) ∷ factor-fields (factor-row note) ∷ counted-fields (counted note) ∷ measured-fields (measured note) ∷ withdrawal-fields (withdrawal note) ∷ []) k []
 
 -- a kind in a word, and fields by name
 abbrev pub said-of : ℕ → List Named → List ℕ
@@ -79,7 +80,7 @@ pub record Refused-said (bs : List ℕ) (n : ℕ) (s : List ℕ) : Type 0 where
   pub note : Framed bs → s ≡ kind-word (note-kind (first-note bs)) ++ (named (codes "kind", note-kind (first-note bs)) ++ (named (codes "length", length (first-note bs)) ++ refused n))
   pub unframed : (Framed bs → ⊥) → s ≡ codes "unframed" ++ (named (codes "left", length bs) ++ refused n)
 
--- what is said of bytes, by what reading them answers
+-- s is what is said of bytes that are read so: what their first note says, or why they are refused
 abbrev pub Said : List ℕ → Result Note Refusal → List ℕ → Type 0
 Said bs (Ok n) s = s ≡ note-said (first-note bs)
 Said bs (Err f) s = Refused-said bs (refusal-number f) s
@@ -87,7 +88,7 @@ Said bs (Err f) s = Refused-said bs (refusal-number f) s
 -- the line for the bytes that stand at the place k, after `at` bytes of the feed
 pub record Line (k at : ℕ) (bs line : List ℕ) : Type 0 where
   pub answer : Result Note Refusal
-  pub read : Reads Known Says bs answer
+  pub read : Reads Kind-range Says bs answer
   pub said : List ℕ
   pub tells : Said bs answer said
   pub text : line ≡ decimal k ++ (named (codes "at", at) ++ (codes " " ++ (said ++ codes "\n")))

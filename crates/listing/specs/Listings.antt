@@ -7,7 +7,7 @@ use lib.ListN.{length}
 use Rattle.feed.specs.Frames.{Framed, One-note}
 use Rattle.listing.specs.Lines.{named, Line}
 
--- the line for what is left where no note can be read any more: nothing, or bytes that cannot be framed
+-- the line for what is left after the last note: nothing, or bytes of which it says why they are refused
 pub record Last-line (k at : ℕ) (bs line : List ℕ) : Type 0 where
   pub none : bs ≡ [] → line ≡ codes "end" ++ (named (codes "at", at) ++ codes "\n")
   pub some : 0 < length bs → Line k at bs line

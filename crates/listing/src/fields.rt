@@ -4,7 +4,7 @@ ghost use Rattle.std.specs.Joined.{joined};
 ghost use Rattle.std.specs.Of.String.{string-bytes};
 ghost use Rattle.std.specs.Vec.{made};
 ghost use Rattle.feed.specs.Buildings.{numbers-of};
-ghost use Rattle.listing.specs.Lines.{named, building-fields, row-fields, head-fields, counted-fields, measured-fields, withdrawal-fields, said-of};
+ghost use Rattle.listing.specs.Lines.{named, building-fields, factor-fields, head-fields, counted-fields, measured-fields, withdrawal-fields, said-of};
 use feed::building::Building;
 use feed::entry::CountedEntry;
 use feed::entry::EntryHead;
@@ -30,7 +30,7 @@ pub(crate) fn building(heap: Global, b: &Building) -> Result<String, AllocError>
 }
 
 pub(crate) fn factor(heap: Global, row: &FactorRow) -> Result<String, AllocError>
-    ensures { λ r. ⌜ made r (λ s. string-bytes s ≡ said-of 2 (row-fields (now (row .entry)))) ⌝ }
+    ensures { λ r. ⌜ made r (λ s. string-bytes s ≡ said-of 2 (factor-fields (now (row .entry)))) ⌝ }
 {
     format!(
         heap,

@@ -1,4 +1,7 @@
 // A feed in words: a line for each note, and how the feed ends.
 mod fields;
-pub mod line;
-pub mod whole;
+mod lines;
+mod whole;
+
+pub use lines::line;
+pub use whole::listing;

@@ -5,7 +5,7 @@ ghost use Prim.Native.Nat.{ℕ};
 ghost use Rattle.std.specs.Of.String.{string-bytes};
 ghost use Rattle.std.specs.Vec.{made};
 ghost use Rattle.listing.specs.Listings.{Last-line, Lists};
-use crate::line::line;
+use crate::lines::line;
 use feed::reader::Next;
 use feed::reader::Part;
 use feed::reader::Reader;

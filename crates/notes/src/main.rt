@@ -1,5 +1,5 @@
 // Lists the feed on standard input: a line for each note, and how the feed ends.
-use listing::whole::listing;
+use listing::listing;
 use std::error::AnyError;
 use std::io::Read;
 

@@ -3,13 +3,13 @@ ghost use mathlib.Core.Path.{_≡_};
 ghost use lib.ListN.{length};
 ghost use Rattle.std.specs.Options.{Cases};
 ghost use Rattle.feed.specs.Codes.{unit-number};
-ghost use Rattle.feed.specs.Factors.{Row-in-range, Is-row};
+ghost use Rattle.feed.specs.Factors.{Factor-in-range, Is-factor-row};
 ghost use Rattle.feed.specs.Frames.{Framed, first-note, note-kind};
 ghost use Rattle.feed.specs.Readings.{Reads, ranges};
 ghost use Rattle.feed.specs.Refusals.{Decided};
 use crate::factor::Factor;
 use crate::factor::FactorRow;
-use crate::factor::unit::FactorUnit;
+use crate::factor::FactorUnit;
 use crate::frame::note_of_kind;
 use crate::kind::Kind;
 use crate::little::u16_at;
@@ -21,8 +21,8 @@ const AMOUNT_MAX: u32 = 1_000_000_000;
 impl FactorRow {
     // The factor row that the bytes begin with. One that is read is in range.
     pub fn read(bytes: &[u8]) -> Result<FactorRow, Refusal>
-        ensures value { λ r. ⌜ Reads (λ k. k ≡ 2) Is-row (now (bytes .entry)) r ⌝ }
-        ensures alone { λ r. ⌜ (Framed (now (bytes .entry)) → Reads (λ k. k ≡ 2) Is-row (first-note (now (bytes .entry))) r) ⌝ }
+        ensures value { λ r. ⌜ Reads (λ k. k ≡ 2) Is-factor-row (now (bytes .entry)) r ⌝ }
+        ensures alone { λ r. ⌜ (Framed (now (bytes .entry)) → Reads (λ k. k ≡ 2) Is-factor-row (first-note (now (bytes .entry))) r) ⌝ }
     {
         FactorRow::from_note(note_of_kind(bytes, Kind::Factor)?)
     }
@@ -30,7 +30,7 @@ impl FactorRow {
     pub(crate) fn from_note(note: &[u8]) -> Result<FactorRow, Refusal>
         requires kind { ⌜ note-kind (now note) ≡ 2 ⌝ }
         requires length { ⌜ length (now note) ≡ 14 ⌝ }
-        ensures { λ r. ⌜ Decided (ranges (now (note .entry))) (Is-row (now (note .entry))) r ⌝ }
+        ensures { λ r. ⌜ Decided (ranges (now (note .entry))) (Is-factor-row (now (note .entry))) r ⌝ }
     {
         let row = FactorRow {
             code: u32_at(note, 4),
@@ -45,7 +45,7 @@ impl FactorRow {
 
     // The factor of this row, if its amount and its unit are in range.
     pub fn factor(self) -> Option<Factor>
-        ensures { λ r. ⌜ Cases r (Row-in-range self → ⊥) (λ f. Row-in-range self × (f .amount ≡ self .amount) × (unit-number (f .unit) ≡ self .unit)) ⌝ }
+        ensures { λ r. ⌜ Cases r (Factor-in-range self → ⊥) (λ f. Factor-in-range self × (f .amount ≡ self .amount) × (unit-number (f .unit) ≡ self .unit)) ⌝ }
     {
         let unit = FactorUnit::from_number(self.unit)?;
         let amount = self.amount;

@@ -4,4 +4,4 @@ use Rattle.feed.proofs.Bytes.{field-run}
 use Rattle.feed.proofs.little.u32_at.Needs as need
 
 pub returns : need.returns
-returns c = rw (field-run (c .args .bytes .now) (c .args .at) 4 (c .pre), add-zero) (omega (arith, c .from-le-bytes .ensures))
+returns c = rw (field-run (c .args .bytes .now) (c .args .at) 4 (c .pre), add-zero (c .args .at)) (omega (arith, c .from-le-bytes .ensures))

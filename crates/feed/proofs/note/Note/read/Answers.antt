@@ -1,4 +1,5 @@
-use Rattle.feed.specs.Notes.{Known, Says}
+use Rattle.feed.specs.Notes.{Says}
+use Rattle.feed.specs.Ranges.{Kind-range}
 use Rattle.feed.proofs.Reading.{headed, reads-framed, reads-alone}
 use Rattle.feed.proofs.note.Note.read.Needs as need
 
@@ -9,5 +10,5 @@ pub returns : need.returns
 returns c =
     let bs = c .args .bytes .now in
     let step = c .in-Continue-first-note .ensures tt in
-    let told = reads-framed Known Says bs _ (c .from-note .result) (step .0 .0) (step .1) (c .from-note .ensures) in
-    record { value = told; alone = reads-alone Known Says bs _ told }
+    let told = reads-framed Kind-range Says bs _ (c .from-note .result) (step .0 .0) (step .1) (c .from-note .ensures) in
+    record { value = told; alone = reads-alone Kind-range Says bs _ told }

@@ -2,7 +2,7 @@
 ghost use mathlib.Core.Path.{_≡_};
 ghost use Rattle.std.specs.Options.{Cases};
 ghost use Rattle.feed.specs.Codes.{region-number};
-ghost use Rattle.feed.specs.Ranges.{Within};
+ghost use Rattle.feed.specs.Ranges.{Region-range};
 
 // The climate that a building stands in.
 #[derive(Clone, Copy)]
@@ -16,7 +16,7 @@ pub enum Region {
 
 impl Region {
     pub fn from_number(n: u16) -> Option<Region>
-        ensures { λ r. ⌜ Cases r (Within 1 n 5 → ⊥) (λ region. region-number region ≡ n) ⌝ }
+        ensures { λ r. ⌜ Cases r (Region-range n → ⊥) (λ region. region-number region ≡ n) ⌝ }
     {
         match n {
             1 => Some(Region::SevereCold),

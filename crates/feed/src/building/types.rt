@@ -2,7 +2,7 @@
 ghost use mathlib.Core.Path.{_≡_};
 ghost use Rattle.std.specs.Options.{Cases};
 ghost use Rattle.feed.specs.Codes.{type-number};
-ghost use Rattle.feed.specs.Ranges.{Within};
+ghost use Rattle.feed.specs.Ranges.{Type-range};
 
 // What a building is for.
 #[derive(Clone, Copy)]
@@ -19,7 +19,7 @@ pub enum BuildingType {
 
 impl BuildingType {
     pub fn from_number(n: u16) -> Option<BuildingType>
-        ensures { λ r. ⌜ Cases r (Within 1 n 8 → ⊥) (λ type. type-number type ≡ n) ⌝ }
+        ensures { λ r. ⌜ Cases r (Type-range n → ⊥) (λ type. type-number type ≡ n) ⌝ }
     {
         match n {
             1 => Some(BuildingType::Residential),

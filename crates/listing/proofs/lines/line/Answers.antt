@@ -5,8 +5,8 @@ use Rattle.std.specs.declared.result.Result.the-variants.{Ok, Err}
 use Rattle.feed.specs.Frames.{first-note}
 use Rattle.listing.specs.Lines.{Line, Said}
 use Rattle.listing.proofs.Only.{line-only}
-use Rattle.listing.proofs.line.line.Needs as need
-use Rattle.listing.proofs.line.line.Needs.{in-Ok·in-Continue-said, in-Err·in-Continue-said-2}
+use Rattle.listing.proofs.lines.line.Needs as need
+use Rattle.listing.proofs.lines.line.Needs.{in-Ok·in-Continue-said, in-Err·in-Continue-said-2}
 
 pub returns : need.returns
 returns c =

@@ -1,8 +1,8 @@
 use mathlib.Core.Path.{ap, _∙_}
 use Rattle.std.proofs.shelf.Results.{made-weaker}
-use Rattle.listing.specs.Lines.{building-fields, row-fields, counted-fields, measured-fields, withdrawal-fields}
+use Rattle.listing.specs.Lines.{building-fields, factor-fields, counted-fields, measured-fields, withdrawal-fields}
 use Rattle.listing.proofs.Texts.{said-at}
-use Rattle.listing.proofs.line.said.Needs as need
+use Rattle.listing.proofs.lines.said.Needs as need
 
 pub returns-in-Building : need.returns-in-Building
 returns-in-Building c =
@@ -13,7 +13,7 @@ returns-in-Building c =
 pub returns-in-Factor : need.returns-in-Factor
 returns-in-Factor c =
     made-weaker (c .factor .result) _ _
-    (λ s is bytes says. let told = rw (c .in-Factor .is) at says in is ∙ said-at 2 _ bytes (told .0) (ap row-fields (told .1)))
+    (λ s is bytes says. let told = rw (c .in-Factor .is) at says in is ∙ said-at 2 _ bytes (told .0) (ap factor-fields (told .1)))
     (c .factor .ensures)
 
 pub returns-in-Counted : need.returns-in-Counted

@@ -2,7 +2,7 @@
 ghost use mathlib.Core.Path.{_≡_};
 ghost use Rattle.std.specs.Options.{Cases};
 ghost use Rattle.feed.specs.Codes.{unit-number};
-ghost use Rattle.feed.specs.Ranges.{Within};
+ghost use Rattle.feed.specs.Ranges.{Unit-range};
 
 // What a factor's amount is per.
 #[derive(Clone, Copy)]
@@ -18,7 +18,7 @@ pub enum FactorUnit {
 
 impl FactorUnit {
     pub fn from_number(n: u16) -> Option<FactorUnit>
-        ensures { λ r. ⌜ Cases r (Within 1 n 7 → ⊥) (λ unit. unit-number unit ≡ n) ⌝ }
+        ensures { λ r. ⌜ Cases r (Unit-range n → ⊥) (λ unit. unit-number unit ≡ n) ⌝ }
     {
         match n {
             1 => Some(FactorUnit::Tonne),
