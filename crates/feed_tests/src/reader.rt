@@ -28,8 +28,9 @@ fn ending(next: Next) -> Option<u8> {
 
 #[test]
 fn cut_at_every_length() -> Result<(), Fail> {
+    let feed: &[u8] = FEED;
     for n in 0..199usize {
-        let mut reader = Reader::new(&FEED[0..n]);
+        let mut reader = Reader::new(&feed[0..n]);
         let mut end = 0;
         let mut notes = 0;
         for k in 1..10usize {
@@ -42,7 +43,7 @@ fn cut_at_every_length() -> Result<(), Fail> {
             check_eq(part.place, k)?;
             check_eq(part.start, end)?;
             check_eq(part.start.wrapping_add(part.bytes.len()), ENDS[k])?;
-            check_eq(part.bytes.first().copied(), FEED.get(end).copied())?;
+            check_eq(part.bytes.first().copied(), feed.get(end).copied())?;
             end = ENDS[k];
             notes = k;
         }
