@@ -15,10 +15,12 @@ use Rattle.feed.specs.declared.entry.MeasuredEntry.{MeasuredEntry}
 use Rattle.feed.specs.declared.entry.Withdrawal.{Withdrawal}
 use Rattle.feed.specs.declared.factor.FactorRow.{FactorRow}
 use Rattle.feed.specs.declared.note.Note.{Note}
+use Rattle.feed.specs.declared.reader.Part.{Part}
 use Rattle.feed.specs.declared.refusal.Refusal.{Refusal}
 use Rattle.feed.specs.Buildings.{building-numbers}
 use Rattle.feed.specs.Entries.{counted, measured, withdrawal}
 use Rattle.feed.specs.Factors.{factor-row}
+use Rattle.feed.specs.Feeds.{text}
 use Rattle.feed.specs.Frames.{Framed, first-note, note-kind}
 use Rattle.feed.specs.Notes.{Says}
 use Rattle.feed.specs.Ranges.{Kind-range}
@@ -92,3 +94,7 @@ pub record Line (k at : ℕ) (bs line : List ℕ) : Type 0 where
   pub said : List ℕ
   pub tells : Said bs answer said
   pub text : line ≡ decimal k ++ (named (codes "at", at) ++ (codes " " ++ (said ++ codes "\n")))
+
+-- the line for a part of a feed
+abbrev pub Part-line : Part → List ℕ → Type 0
+Part-line p line = Line (p .place) (p .start) (text p) line

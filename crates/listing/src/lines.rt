@@ -6,7 +6,7 @@ ghost use Rattle.std.specs.Of.String.{string-bytes};
 ghost use Rattle.std.specs.Vec.{made};
 ghost use Rattle.feed.specs.Notes.{Says};
 ghost use Rattle.feed.specs.Refusals.{refusal-number};
-ghost use Rattle.listing.specs.Lines.{kind-word, note-said, Refused-said, Line};
+ghost use Rattle.listing.specs.Lines.{kind-word, note-said, Refused-said, Part-line};
 use crate::fields::building;
 use crate::fields::counted;
 use crate::fields::factor;
@@ -22,8 +22,8 @@ use std::alloc::Global;
 
 // The line for a part of a feed: what its first note says, or by which number it is refused.
 pub fn line(heap: Global, part: &Part) -> Result<String, AllocError>
-    ensures value { λ r. ⌜ made r (λ s. Line (now (part .entry) .place) (now (part .entry) .start) (now (now (part .entry) .bytes)) (string-bytes s)) ⌝ }
-    ensures only { λ r. ⌜ made r (λ s. (other : List ℕ) → Line (now (part .entry) .place) (now (part .entry) .start) (now (now (part .entry) .bytes)) other → other ≡ string-bytes s) ⌝ }
+    ensures value { λ r. ⌜ made r (λ s. Part-line (now (part .entry)) (string-bytes s)) ⌝ }
+    ensures only { λ r. ⌜ made r (λ s. (other : List ℕ) → Part-line (now (part .entry)) other → other ≡ string-bytes s) ⌝ }
 {
     let said = match Note::read(part.bytes) {
         Ok(note) => said(heap, &note)?,
