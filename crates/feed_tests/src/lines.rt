@@ -7,7 +7,7 @@ fn of_no_bytes(rt: LibcRuntime) -> Result<(), Fail> {
     check_eq(listing(rt.alloc(), b"")?.as_str(), "end at=0\n")
 }
 
-// Every kind, with fields at their largest; every refusal; and last a note that says 27 bytes where 15 are left.
+// Every kind that is taken, some with fields at their largest; every refusal; and last a note that says 27 bytes where 15 are left.
 #[test]
 fn of_a_damaged_feed(rt: LibcRuntime) -> Result<(), Fail> {
     let feed = b"\
