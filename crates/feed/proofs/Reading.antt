@@ -7,11 +7,11 @@ use lib.Dec.{lit<, lit≤}
 use lib.ListN.{length}
 use Rattle.std.specs.declared.result.Result.{Result}
 use Rattle.std.specs.declared.result.Result.the-variants.{Err}
-use Rattle.feed.specs.declared.refusal.Refusal.{Refusal}
+use Rattle.refusals.specs.declared.refusal.Refusal.{Refusal}
 use Rattle.feed.specs.Frames.{Framed, first-note, note-kind, note-length}
 use Rattle.feed.specs.Readings.{framing, shape, ranges, Reads}
-use Rattle.feed.specs.Refusals.{refusal-number, Conditions, Kept, Least, Decided}
-use Rattle.feed.proofs.Deciding.{least-stop, decided-on, decided-off}
+use Rattle.refusals.specs.Refusals.{refusal-number, Conditions, Kept, Least, Decided}
+use Rattle.refusals.proofs.Deciding.{least-stop, decided-on, decided-off}
 use Rattle.feed.proofs.Framing.{one-first, framed-one, first-one}
 
 -- what first_note gives has a length and a kind

@@ -12,18 +12,11 @@ use Rattle.feed.specs.declared.reader.Next.{Next}
 use Rattle.feed.specs.declared.reader.Next.the-variants.{Note, End, Refused}
 use Rattle.feed.specs.declared.reader.Part.{Part}
 use Rattle.feed.specs.declared.reader.Reader.{Reader}
-use Rattle.feed.specs.declared.refusal.Refusal.{Refusal}
-use Rattle.feed.specs.declared.refusal.Refusal.the-variants.{Unframed, UnwantedKind, WrongLength, OutOfRange}
+use Rattle.refusals.proofs.Numbers.{number-one}
 use Rattle.feed.specs.Feeds.{text, left-of, Hands, Stays, Spent, Answered, Run, opened, called, parts, Placed, Again, Ends, Lawful}
 use Rattle.feed.specs.Frames.{Framed, One-note}
-use Rattle.feed.specs.Refusals.{refusal-number}
+use Rattle.refusals.specs.Refusals.{refusal-number}
 use Rattle.feed.proofs.Framing.{one-first, first-whole}
-
-number-one : (f : Refusal) → refusal-number f ≡ 1 → f ≡ Unframed
-number-one Unframed e = refl
-number-one UnwantedKind e = absurd (omega arith)
-number-one WrongLength e = absurd (omega arith)
-number-one OutOfRange e = absurd (omega arith)
 
 -- the note that is handed out is what comes next in the feed
 pub hands-next : (r : Reader) (p : Part) (t : Reader) → Hands r p t → text p ++ left-of t ≡ left-of r

@@ -10,7 +10,7 @@ use Rattle.feed.specs.declared.reader.Next.the-variants.{Note, End, Refused}
 use Rattle.feed.specs.declared.reader.Part.{Part}
 use Rattle.feed.specs.declared.reader.Reader.{Reader}
 use Rattle.feed.specs.Frames.{Framed, One-note, first-note}
-use Rattle.feed.specs.Refusals.{refusal-number}
+use Rattle.refusals.specs.Refusals.{refusal-number}
 
 abbrev pub text : Part → List ℕ
 text p = p .bytes .now

@@ -9,4 +9,3 @@ pub mod Heads
 pub mod Notes
 pub mod Ranges
 pub mod Readings
-pub mod Refusals

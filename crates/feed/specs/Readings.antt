@@ -4,11 +4,11 @@ use mathlib.Core.List.{List, [], _∷_, _++_}
 use Prim.Native.Nat.{ℕ}
 use lib.ListN.{length}
 use Rattle.std.specs.declared.result.Result.{Result}
-use Rattle.feed.specs.declared.refusal.Refusal.{Refusal}
+use Rattle.refusals.specs.declared.refusal.Refusal.{Refusal}
 use Rattle.feed.specs.Buildings.{building-numbers, Building-in-range}
 use Rattle.feed.specs.Factors.{factor-row, Factor-in-range}
 use Rattle.feed.specs.Frames.{Framed, first-note, note-kind, note-length}
-use Rattle.feed.specs.Refusals.{Conditions, Decided}
+use Rattle.refusals.specs.Refusals.{Conditions, Decided}
 
 -- bytes have a first note
 abbrev pub framing : List ℕ → Conditions

@@ -7,10 +7,10 @@ ghost use Rattle.feed.specs.Codes.{kind-number};
 ghost use Rattle.feed.specs.Frames.{first-note, note-kind};
 ghost use Rattle.feed.specs.Heads.{Is-head};
 ghost use Rattle.feed.specs.Readings.{framing, shape};
-ghost use Rattle.feed.specs.Refusals.{Decided};
+ghost use Rattle.refusals.specs.Refusals.{Decided};
 use crate::kind::Kind;
 use crate::little::u16_at;
-use crate::refusal::Refusal;
+use refusals::Refusal;
 
 // A note's length and its kind, two bytes each, come before its fields.
 const HEAD_LENGTH: usize = 4;

@@ -7,4 +7,3 @@ pub mod kind;
 mod little;
 pub mod note;
 pub mod reader;
-pub mod refusal;

@@ -8,7 +8,7 @@ ghost use Rattle.feed.specs.Frames.{Framed, first-note, note-kind, note-length
 ghost use Rattle.feed.specs.Notes.{Says};
 ghost use Rattle.feed.specs.Ranges.{Kind-range};
 ghost use Rattle.feed.specs.Readings.{Reads, shape, ranges};
-ghost use Rattle.feed.specs.Refusals.{Decided};
+ghost use Rattle.refusals.specs.Refusals.{Decided};
 use crate::building::Building;
 use crate::entry::CountedEntry;
 use crate::entry::MeasuredEntry;
@@ -17,7 +17,7 @@ use crate::factor::FactorRow;
 use crate::frame::first_note;
 use crate::frame::kind_of;
 use crate::kind::Kind;
-use crate::refusal::Refusal;
+use refusals::Refusal;
 
 #[derive(Clone, Copy)]
 pub enum Note {

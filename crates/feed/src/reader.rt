@@ -1,7 +1,7 @@
 // The notes of a feed, one after the other.
 ghost use Prim.Native.Nat.{_≤_};
 ghost use lib.ListN.{length};
-use crate::refusal::Refusal;
+use refusals::Refusal;
 
 mod calls;
 

@@ -3,7 +3,7 @@ use feed::building::Building;
 use feed::factor::FactorRow;
 use feed::frame::Head;
 use feed::note::Note;
-use feed::refusal::Refusal;
+use refusals::Refusal;
 use std::test::Note as _;
 use std::test::*;
 

@@ -10,13 +10,13 @@ use Rattle.std.specs.declared.result.Result.{Result}
 use Rattle.std.specs.declared.result.Result.the-variants.{Ok, Err}
 use Rattle.std.specs.Written.{decimal}
 use Rattle.feed.specs.declared.note.Note.{Note}
-use Rattle.feed.specs.declared.refusal.Refusal.{Refusal}
+use Rattle.refusals.specs.declared.refusal.Refusal.{Refusal}
 use Rattle.feed.specs.Frames.{Framed}
 use Rattle.feed.specs.Notes.{Says}
 use Rattle.feed.specs.Ranges.{Kind-range}
 use Rattle.feed.specs.Readings.{readable, Reads}
-use Rattle.feed.specs.Refusals.{refusal-number}
-use Rattle.feed.proofs.Deciding.{least-only, unbroken}
+use Rattle.refusals.specs.Refusals.{refusal-number}
+use Rattle.refusals.proofs.Deciding.{least-only, unbroken}
 use Rattle.feed.proofs.Framing.{framed-front, framed-or-not, front-only}
 use Rattle.listing.specs.Lines.{named, Refused-said, Said, Line}
 use Rattle.listing.specs.Listings.{Last-line, Lists, note, last}

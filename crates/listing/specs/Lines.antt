@@ -16,7 +16,7 @@ use Rattle.feed.specs.declared.entry.Withdrawal.{Withdrawal}
 use Rattle.feed.specs.declared.factor.FactorRow.{FactorRow}
 use Rattle.feed.specs.declared.note.Note.{Note}
 use Rattle.feed.specs.declared.reader.Part.{Part}
-use Rattle.feed.specs.declared.refusal.Refusal.{Refusal}
+use Rattle.refusals.specs.declared.refusal.Refusal.{Refusal}
 use Rattle.feed.specs.Buildings.{building-numbers}
 use Rattle.feed.specs.Entries.{counted, measured, withdrawal}
 use Rattle.feed.specs.Factors.{factor-row}
@@ -25,7 +25,7 @@ use Rattle.feed.specs.Frames.{Framed, first-note, note-kind}
 use Rattle.feed.specs.Notes.{Says}
 use Rattle.feed.specs.Ranges.{Kind-range}
 use Rattle.feed.specs.Readings.{Reads}
-use Rattle.feed.specs.Refusals.{refusal-number}
+use Rattle.refusals.specs.Refusals.{refusal-number}
 
 -- the word for a kind
 abbrev pub kind-word : ℕ → List ℕ

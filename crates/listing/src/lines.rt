@@ -5,7 +5,7 @@ ghost use Prim.Native.Nat.{ℕ};
 ghost use Rattle.std.specs.Of.String.{string-bytes};
 ghost use Rattle.std.specs.Vec.{made};
 ghost use Rattle.feed.specs.Notes.{Says};
-ghost use Rattle.feed.specs.Refusals.{refusal-number};
+ghost use Rattle.refusals.specs.Refusals.{refusal-number};
 ghost use Rattle.listing.specs.Lines.{kind-word, note-said, Refused-said, Part-line};
 use crate::fields::building;
 use crate::fields::counted;
@@ -16,7 +16,7 @@ use feed::frame::Head;
 use feed::kind::Kind;
 use feed::note::Note;
 use feed::reader::Part;
-use feed::refusal::Refusal;
+use refusals::Refusal;
 use std::alloc::AllocError;
 use std::alloc::Global;
 

@@ -5,7 +5,7 @@ ghost use Rattle.std.specs.Options.{Cases};
 ghost use Rattle.feed.specs.Buildings.{building-numbers, numbers-of, Building-in-range, Is-building};
 ghost use Rattle.feed.specs.Frames.{Framed, first-note, note-kind};
 ghost use Rattle.feed.specs.Readings.{Reads, ranges};
-ghost use Rattle.feed.specs.Refusals.{Decided};
+ghost use Rattle.refusals.specs.Refusals.{Decided};
 use crate::building::Building;
 use crate::building::BuildingNumbers;
 use crate::building::BuildingType;
@@ -14,7 +14,7 @@ use crate::frame::note_of_kind;
 use crate::kind::Kind;
 use crate::little::u16_at;
 use crate::little::u32_at;
-use crate::refusal::Refusal;
+use refusals::Refusal;
 
 const AREA_MAX: u32 = 100_000_000;
 

@@ -5,8 +5,8 @@ use mathlib.Core.List.{List, [], _∷_}
 use Prim.Native.Nat.{ℕ, _<_}
 use Rattle.std.specs.declared.result.Result.{Result}
 use Rattle.std.specs.declared.result.Result.the-variants.{Ok, Err}
-use Rattle.feed.specs.declared.refusal.Refusal.{Refusal}
-use Rattle.feed.specs.declared.refusal.Refusal.the-variants.{Unframed, UnwantedKind, WrongLength, OutOfRange}
+use Rattle.refusals.specs.declared.refusal.Refusal.{Refusal}
+use Rattle.refusals.specs.declared.refusal.Refusal.the-variants.{Unframed, UnwantedKind, WrongLength, OutOfRange, UnknownRow, UnfitSpan, UnfitQuantity, FactorLacking, UnfitUnit, TooLarge}
 
 -- each refusal's number
 abbrev pub refusal-number : Refusal → ℕ
@@ -14,6 +14,12 @@ refusal-number Unframed = 1
 refusal-number UnwantedKind = 2
 refusal-number WrongLength = 3
 refusal-number OutOfRange = 4
+refusal-number UnknownRow = 5
+refusal-number UnfitSpan = 6
+refusal-number UnfitQuantity = 7
+refusal-number (FactorLacking l) = 8
+refusal-number UnfitUnit = 9
+refusal-number TooLarge = 10
 
 -- what a call asks for, each condition with the number of the refusal where it fails
 abbrev pub Conditions : Type 1

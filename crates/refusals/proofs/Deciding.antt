@@ -7,8 +7,8 @@ use native.Mathlib.Omega.{arith}
 use Rattle.std.proofs.str.Laws.{order}
 use Rattle.std.specs.declared.result.Result.{Result}
 use Rattle.std.specs.declared.result.Result.the-variants.{Ok, Err}
-use Rattle.feed.specs.declared.refusal.Refusal.{Refusal}
-use Rattle.feed.specs.Refusals.{refusal-number, Conditions, Kept, Broken, Least, Decided}
+use Rattle.refusals.specs.declared.refusal.Refusal.{Refusal}
+use Rattle.refusals.specs.Refusals.{refusal-number, Conditions, Kept, Broken, Least, Decided}
 
 kept-both : (cs ds : Conditions) → Kept cs → Kept ds → Kept (cs ++ ds)
 kept-both [] ds k l = l
