@@ -1,7 +1,7 @@
 -- Rounding: the whole number nearest to an exact one. Assumes nothing.
 use mathlib.Core.Path.{_≡_}
 use Prim.Native.Nat.{ℕ, _*_, _<_}
-use lib.IntN.{ℤ, pos, _+ℤ_, _*ℤ_}
+use lib.IntN.{ℤ, pos, natAbs, _+ℤ_, _*ℤ_}
 use lib.Signed.{shrZ, _≤ℤ_, _<ℤ_}
 
 -- an exact number: a fraction of whole numbers
@@ -37,6 +37,10 @@ pub record Nearest (r : ℤ) (x : Fraction) : Type 0 where
 -- the whole number nearest to x, a half going up: x and a half, rounded down
 unfoldable pub nearest : Fraction → ℤ
 nearest x = shrZ (pos 2 *ℤ x .numerator +ℤ pos (x .divisor)) (2 * x .divisor)
+
+-- the same of a fraction of natural numbers
+abbrev pub rounded : ℕ → ℕ → ℕ
+rounded n d = natAbs (nearest (over (pos n) d))
 
 -- what holds of a rounding
 pub record Rounding (round : Fraction → ℤ) : Type 0 where

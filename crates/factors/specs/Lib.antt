@@ -1,0 +1,4 @@
+pub mod Maps
+pub mod BuiltIn
+pub mod Lists
+pub mod Layers
