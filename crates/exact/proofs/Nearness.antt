@@ -1,12 +1,12 @@
 -- The laws of rounding, which whatever rounds cites in place of its definition. Assumes nothing.
 use mathlib.Core.Path.{_≡_, sym, ap, subst, _∙_}
 use Prim.Native.Nat.{ℕ, _+_, _*_, _/_, _%_, _≤_, _<_}
-use native.Mathlib.Nat.{mul-comm, div-add-mod', mod-lt}
+use native.Mathlib.Nat.{mul-comm, mul-le-mul-right, div-add-mod', mod-lt}
 use native.Mathlib.Omega.{arith}
 use lib.IntN.{ℤ, pos, negsuc, _+ℤ_, _*ℤ_, +ℤ-idr}
-use lib.Signed.{shrZ, _≤ℤ_, _<ℤ_}
+use lib.Signed.{shrZ, _≤ℤ_, _<ℤ_, pos-natAbs, yes-nonNeg}
 use Rattle.std.proofs.shelf.Signed.{ints, by-ltZ}
-use Rattle.exact.specs.Rounding.{Fraction, over, Divides, No-larger, Within-half, Half-above, Nearest, nearest, Rounding}
+use Rattle.exact.specs.Rounding.{Fraction, over, Divides, No-larger, Same, Within-half, Half-above, Nearest, nearest, rounded, Rounding}
 use Rattle.exact.proofs.Products.{scale-le, twice, apart, crossed, step, doubled}
 
 -- a number rounded down
@@ -67,7 +67,7 @@ nearest-mono x y hx hy le =
     (λ l. l)
 
 -- equal fractions have the same nearest number
-pub nearest-same : (x y : Fraction) → Divides x → Divides y → x .numerator *ℤ pos (y .divisor) ≡ y .numerator *ℤ pos (x .divisor) → nearest x ≡ nearest y
+pub nearest-same : (x y : Fraction) → Divides x → Divides y → Same x y → nearest x ≡ nearest y
 nearest-same x y hx hy e =
     let a = nearest-mono x y hx hy (omega (arith, ints)) in
     let b = nearest-mono y x hy hx (omega (arith, ints)) in
@@ -87,7 +87,7 @@ nearest-up w rest d b l =
     let e = apart w (pos 1) d in
     nearest-only x (w +ℤ pos 1) (nearest x) h (record { near = record { least = omega (arith, ints); most = omega (arith, ints) }; upper = λ half. omega (arith, ints, half) }) (is-nearest x h)
 
-stays : (r : ℤ) (d : ℕ) → 0 < d → nearest (over (r *ℤ pos d) d) ≡ r
+pub stays : (r : ℤ) (d : ℕ) → 0 < d → nearest (over (r *ℤ pos d) d) ≡ r
 stays r d h = ap (λ n. nearest (over n d)) (sym (+ℤ-idr (r *ℤ pos d))) ∙ sym (nearest-down r 0 d h)
 
 adds : (n r : ℤ) (d : ℕ) → 0 < d → nearest (over (n +ℤ r *ℤ pos d) d) ≡ nearest (over n d) +ℤ r
@@ -110,3 +110,15 @@ nearest-natural n d h =
 
 pub nearest-small : (n d : ℕ) → n + n < d → pos 0 ≡ nearest (over (pos n) d)
 nearest-small n d l = nearest-down (pos 0) n d l ∙ ap (λ m. nearest (over m d)) (omega (arith, ints))
+
+pub pos-rounded : (n d : ℕ) → 0 < d → pos (rounded n d) ≡ nearest (over (pos n) d)
+pos-rounded n d h = pos-natAbs (nearest (over (pos n) d)) (yes-nonNeg (nearest-natural n d h))
+
+pub rounded-near : (n d : ℕ) → 0 < d → Within-half (pos (rounded n d)) (over (pos n) d)
+rounded-near n d h = subst (λ r. Within-half r (over (pos n) d)) (sym (pos-rounded n d h)) (is-nearest (over (pos n) d) h .near)
+
+-- a bound on a fraction bounds what is nearest to it
+pub rounded-most : (n d k : ℕ) → 0 < d → n ≤ k * d → rounded n d ≤ k
+rounded-most n d k h l =
+    let m = nearest-mono (over (pos n) d) (over (pos k *ℤ pos d) d) h h (omega (arith, ints, mul-le-mul-right d l)) in
+    omega (arith, ints, pos-rounded n d h, stays (pos k) d h)

@@ -20,6 +20,10 @@ Divides x = 0 < x .divisor
 abbrev pub No-larger : Fraction → Fraction → Type 0
 No-larger x y = (x .numerator *ℤ pos (y .divisor)) ≤ℤ (y .numerator *ℤ pos (x .divisor))
 
+-- they are the same number
+abbrev pub Same : Fraction → Fraction → Type 0
+Same x y = x .numerator *ℤ pos (y .divisor) ≡ y .numerator *ℤ pos (x .divisor)
+
 -- the whole number r is at most a half away from x
 pub record Within-half (r : ℤ) (x : Fraction) : Type 0 where
   pub least : (pos 2 *ℤ (r *ℤ pos (x .divisor))) ≤ℤ (pos 2 *ℤ x .numerator +ℤ pos (x .divisor))

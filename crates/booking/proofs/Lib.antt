@@ -1,0 +1,2 @@
+mod Measures
+mod Patterns
