@@ -1,2 +1,4 @@
+mod Contents
 mod Measures
 mod Patterns
+mod Weighing

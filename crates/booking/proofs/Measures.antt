@@ -9,7 +9,10 @@ use lib.Ieee.{Float, nan, inf, fin, up, down, binary64, ofBits, ofFields, odd, i
 use lib.IntN.{ℤ, pos, negsuc}
 use Rattle.std.proofs.shelf.Bits.{pow-pos}
 use Rattle.exact.specs.Rounding.{Divides}
-use Rattle.booking.specs.Quantities.{Measured-in-range, measured-thousandths}
+use Rattle.exact.proofs.Nearness.{rounded-most}
+use Rattle.booking.specs.declared.quantity.Quantity.{Quantity}
+use Rattle.booking.specs.declared.quantity.Quantity.the-variants.{Counted, Measured}
+use Rattle.booking.specs.Quantities.{Measured-in-range, measured-thousandths, Quantity-in-range, booked-thousandths}
 use Rattle.booking.proofs.Patterns.{down-pos}
 
 zero-is : ofBits binary64 0 ≡ fin false 0 (pos 0)
@@ -71,3 +74,10 @@ pub divides : (x : Float) → Divides (measured-thousandths x)
 divides nan = omega arith
 divides (inf s) = omega arith
 divides (fin s m e) = down-pos e
+
+-- a quantity in range is booked in range
+pub booked-range : (q : Quantity) → Quantity-in-range q → booked-thousandths q ≤ 1000000000
+booked-range (Counted n) r = rounded-most n 1 1000000000 (omega arith) (omega arith)
+booked-range (Measured nan) r = absurd r
+booked-range (Measured (inf s)) r = absurd r
+booked-range (Measured (fin s m e)) r = rounded-most (1000 * (m * up e)) (down e) 1000000000 (down-pos e) (omega (arith, r .0))

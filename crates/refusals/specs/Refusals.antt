@@ -21,6 +21,19 @@ refusal-number (FactorLacking l) = 8
 refusal-number UnfitUnit = 9
 refusal-number TooLarge = 10
 
+-- the codes that a refusal names: a lack names the one that was asked for and the one that is lacking
+abbrev pub refusal-codes : Refusal → List ℕ
+refusal-codes Unframed = []
+refusal-codes UnwantedKind = []
+refusal-codes WrongLength = []
+refusal-codes OutOfRange = []
+refusal-codes UnknownRow = []
+refusal-codes UnfitSpan = []
+refusal-codes UnfitQuantity = []
+refusal-codes (FactorLacking l) = l .asked ∷ l .lacking ∷ []
+refusal-codes UnfitUnit = []
+refusal-codes TooLarge = []
+
 -- what a call asks for, each condition with the number of the refusal where it fails
 abbrev pub Conditions : Type 1
 Conditions = List (ℕ × Type 0)
