@@ -1,4 +1,5 @@
 mod Contents
 mod Measures
 mod Patterns
+pub mod Single
 mod Weighing

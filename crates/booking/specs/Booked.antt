@@ -6,10 +6,11 @@ use lib.Dec.{T}
 use lib.IntN.{pos}
 use Rattle.std.specs.declared.result.Result.{Result}
 use Rattle.std.specs.declared.result.Result.the-variants.{Ok, Err}
+use Rattle.std.specs.Results.{Cases}
 use Rattle.exact.specs.Rounding.{Fraction, over, rounded}
 use Rattle.refusals.specs.declared.lacking.Lacking.{Lacking}
 use Rattle.refusals.specs.declared.refusal.Refusal.{Refusal}
-use Rattle.refusals.specs.Refusals.{refusal-number, refusal-codes, Conditions}
+use Rattle.refusals.specs.Refusals.{refusal-number, refusal-codes, Conditions, Decided}
 use Rattle.factors.specs.Maps.{Answer, Map, has, lacks}
 use Rattle.feed.specs.Codes.{unit-number}
 use Rattle.feed.specs.declared.factor.Factor.{Factor}
@@ -83,3 +84,7 @@ module _ (y : ℕ) (known : Map) (e : Entry) where
   -- its line: of its exact weight, the nearest gram
   abbrev pub booked : Booked
   booked = record { row = e .head .row; span = e .head .span; code = e .head .code; thousandths = booked-thousandths (e .quantity); grams = rounded entry-weight entry-divisor }
+
+  -- r is what booking it answers
+  abbrev pub Books : Result Line Refusal → Type 0
+  Books r = Decided content (λ line. line-numbers line ≡ booked) r × Cases r (λ line. Unit {0}) (Names (e .head .code) factor)

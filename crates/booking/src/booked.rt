@@ -1,10 +1,8 @@
 // Booking: what an entry comes to in a building, at the factors of a source.
-ghost use mathlib.Core.Path.{_≡_};
 ghost use lib.IntN.{pos};
 ghost use Rattle.std.specs.Results.{Cases};
-ghost use Rattle.refusals.specs.Refusals.{Decided};
 ghost use Rattle.exact.specs.Rounding.{Within-half};
-ghost use Rattle.booking.specs.Booked.{content, booked, exact-grams, line-numbers, Told, Names};
+ghost use Rattle.booking.specs.Booked.{exact-grams, Books, Told};
 use crate::entry::Entry;
 use crate::line::Line;
 use crate::row::Row;
@@ -22,9 +20,8 @@ pub fn book<S: FactorSource>(
     source: &S,
     entry: &Entry,
 ) -> Result<Line, Refusal>
-    ensures value { λ r. ⌜ Decided (content (now (building .entry) .life) (S·FactorSource .known (now (source .entry))) (now (entry .entry))) (λ line. line-numbers line ≡ booked (now (building .entry) .life) (S·FactorSource .known (now (source .entry))) (now (entry .entry))) r ⌝ }
+    ensures value { λ r. ⌜ Books (now (building .entry) .life) (S·FactorSource .known (now (source .entry))) (now (entry .entry)) r ⌝ }
     ensures near { λ r. ⌜ Cases r (λ line. Within-half (pos (line .grams)) (exact-grams (now (building .entry) .life) (S·FactorSource .known (now (source .entry))) (now (entry .entry)))) (λ _. Unit {0}) ⌝ }
-    ensures codes { λ r. ⌜ Cases r (λ _. Unit {0}) (Names (now (entry .entry) .head .code) (S·FactorSource .known (now (source .entry)) (now (entry .entry) .head .code))) ⌝ }
 {
     let head = entry.head;
     let Some(row) = Row::from_number(head.row) else {

@@ -19,8 +19,8 @@ entry-of row span code thousandths =
     record { head = record { number = 0; revision = 0; row = row; span = span; code = code }; quantity = Counted thousandths }
 
 -- it is booked, in a building of y years, at so many grams
-abbrev pub Books : ℕ → Map → Entry → ℕ → Type 0
-Books y known e grams = Kept (content y known e) × (booked y known e .grams ≡ grams)
+abbrev pub Comes-to : ℕ → Map → Entry → ℕ → Type 0
+Comes-to y known e grams = Kept (content y known e) × (booked y known e .grams ≡ grams)
 
 -- the binary64 number nearest to n / d is booked at so many thousandths
 abbrev pub Measures : (n d thousandths : ℕ) → Type 0
@@ -30,12 +30,12 @@ Measures n d thousandths =
 -- each of these holds
 abbrev pub figures : List (Type 0)
 figures =
-    Books 1 (λ c. has 5000 1) (entry-of 1 0 7 1) 1
-    ∷ Books 1 (λ c. has 4999 1) (entry-of 1 0 7 1) 0
+    Comes-to 1 (λ c. has 5000 1) (entry-of 1 0 7 1) 1
+    ∷ Comes-to 1 (λ c. has 4999 1) (entry-of 1 0 7 1) 0
     ∷ Measures 625 10000 63
     ∷ Measures 624 10000 62
-    ∷ Books 50 built-in (entry-of 21 15 102 1000) 4766667
-    ∷ Books 50 (λ c. has 1290 5) (entry-of 2 500 7 30000) 1935000
+    ∷ Comes-to 50 built-in (entry-of 21 15 102 1000) 4766667
+    ∷ Comes-to 50 (λ c. has 1290 5) (entry-of 2 500 7 30000) 1935000
     ∷ (with-recycled (λ c. has 5 1) 1000007 ≡ has 3 1)
     ∷ []
 

@@ -1,3 +1,5 @@
+mod Runs
 mod Texts
 pub mod Listed
+mod Begun
 mod Only

@@ -1,6 +1,8 @@
-// A feed in words: a line for each note, and how the feed ends.
+// A feed in words: a line for each note with what it is booked at, and how the feed ends.
 mod fields;
 mod lines;
+pub mod opening;
+mod weights;
 mod whole;
 
 pub use lines::line;

@@ -6,12 +6,18 @@ ghost use Rattle.std.specs.Of.String.{string-bytes};
 ghost use Rattle.std.specs.Vec.{made};
 ghost use Rattle.feed.specs.Notes.{Says};
 ghost use Rattle.refusals.specs.Refusals.{refusal-number};
-ghost use Rattle.listing.specs.Lines.{kind-word, note-said, Refused-said, Part-line};
+ghost use Rattle.listing.specs.Lines.{kind-word, note-said, Note-told, Refused-said, Part-line};
+ghost use Rattle.listing.specs.Openings.{account-of};
 use crate::fields::building;
 use crate::fields::counted;
 use crate::fields::factor;
 use crate::fields::measured;
 use crate::fields::withdrawal;
+use crate::opening::Opening;
+use crate::weights::weight;
+use booking::CountedAsEntry;
+use booking::Entry;
+use booking::MeasuredAsEntry;
 use feed::frame::Head;
 use feed::kind::Kind;
 use feed::note::Note;
@@ -20,18 +26,31 @@ use refusals::Refusal;
 use std::alloc::AllocError;
 use std::alloc::Global;
 
-// The line for a part of a feed: what its first note says, or by which number it is refused.
-pub fn line(heap: Global, part: &Part) -> Result<String, AllocError>
-    ensures value { λ r. ⌜ made r (λ s. Part-line (now (part .entry)) (string-bytes s)) ⌝ }
-    ensures only { λ r. ⌜ made r (λ s. (other : List ℕ) → Part-line (now (part .entry)) other → other ≡ string-bytes s) ⌝ }
+// The line for a part of a feed: what its first note says and is booked at, or by which number it is refused.
+pub fn line(heap: Global, opening: &Opening, part: &Part) -> Result<String, AllocError>
+    ensures value { λ r. ⌜ made r (λ s. Part-line (account-of (now (opening .entry))) (now (part .entry)) (string-bytes s)) ⌝ }
+    ensures only { λ r. ⌜ made r (λ s. (other : List ℕ) → Part-line (account-of (now (opening .entry))) (now (part .entry)) other → other ≡ string-bytes s) ⌝ }
 {
     let said = match Note::read(part.bytes) {
-        Ok(note) => said(heap, &note)?,
+        Ok(note) => told(heap, opening, &note)?,
         Err(refusal) => refused(heap, part.bytes, refusal)?,
     };
     let place = part.place;
     let start = part.start;
     format!(heap, "{place} at={start} {said}\n")
+}
+
+// All that is said of a note: what it says, and what it is booked at where it is an entry.
+fn told(heap: Global, opening: &Opening, note: &Note) -> Result<String, AllocError>
+    ensures { λ r. ⌜ made r (λ s. (bytes : List ℕ) → Says bytes (now (note .entry)) → Note-told (account-of (now (opening .entry))) bytes (string-bytes s)) ⌝ }
+{
+    let said = said(heap, note)?;
+    let weight = match note {
+        Note::Counted(e) => weight(heap, opening, &Entry::from(*e))?,
+        Note::Measured(e) => weight(heap, opening, &Entry::from(*e))?,
+        _ => return Ok(said),
+    };
+    format!(heap, "{said}{weight}")
 }
 
 // What a note says: its kind in a word, and its fields by name.

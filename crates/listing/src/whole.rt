@@ -4,8 +4,10 @@ ghost use mathlib.Core.List.{List};
 ghost use Prim.Native.Nat.{ℕ};
 ghost use Rattle.std.specs.Of.String.{string-bytes};
 ghost use Rattle.std.specs.Vec.{made};
-ghost use Rattle.listing.specs.Listings.{Last-line, Lists};
+ghost use Rattle.listing.specs.Listings.{Last-line, Listing};
+ghost use Rattle.listing.specs.Openings.{account-of};
 use crate::lines::line;
+use crate::opening::Opening;
 use feed::reader::Next;
 use feed::reader::Part;
 use feed::reader::Reader;
@@ -14,28 +16,29 @@ use std::alloc::Global;
 
 // A line for each note of the feed, and a last one that says how the feed ends.
 pub fn listing(heap: Global, feed: &[u8]) -> Result<String, AllocError>
-    ensures value { λ r. ⌜ made r (λ s. Lists 1 0 (now (feed .entry)) (string-bytes s)) ⌝ }
-    ensures only { λ r. ⌜ made r (λ s. (other : List ℕ) → Lists 1 0 (now (feed .entry)) other → other ≡ string-bytes s) ⌝ }
+    ensures value { λ r. ⌜ made r (λ s. Listing (now (feed .entry)) (string-bytes s)) ⌝ }
+    ensures only { λ r. ⌜ made r (λ s. (other : List ℕ) → Listing (now (feed .entry)) other → other ≡ string-bytes s) ⌝ }
 {
+    let opening = Opening::read(heap, feed)?;
     let mut text = String::new(heap);
     let mut reader = Reader::new(feed);
     while let Next::Note(part) = reader.next() {
-        let line = line(heap, &part)?;
+        let line = line(heap, &opening, &part)?;
         text.push_str(line.as_str())?;
     }
-    let last = last_line(heap, &reader.left())?;
+    let last = last_line(heap, &opening, &reader.left())?;
     text.push_str(last.as_str())?;
     Ok(text)
 }
 
 // The line for what is left of a feed where no note can be read any more.
-fn last_line(heap: Global, left: &Part) -> Result<String, AllocError>
-    ensures { λ r. ⌜ made r (λ s. Last-line (now (left .entry) .place) (now (left .entry) .start) (now (now (left .entry) .bytes)) (string-bytes s)) ⌝ }
+fn last_line(heap: Global, opening: &Opening, left: &Part) -> Result<String, AllocError>
+    ensures { λ r. ⌜ made r (λ s. Last-line (account-of (now (opening .entry))) (now (left .entry) .place) (now (left .entry) .start) (now (now (left .entry) .bytes)) (string-bytes s)) ⌝ }
 {
     if left.bytes.is_empty() {
         let start = left.start;
         format!(heap, "end at={start}\n")
     } else {
-        line(heap, left)
+        line(heap, opening, left)
     }
 }

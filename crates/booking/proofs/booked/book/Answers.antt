@@ -11,21 +11,21 @@ use Rattle.booking.proofs.Weighing.{divisor-range, grams-range, lack-refused, 
 use Rattle.booking.proofs.booked.book.Needs as need
 
 pub returns-in-rest : need.returns-in-rest
-returns-in-rest g c = record { value = row-fails _ _ (c .args .entry .now) (c .in-rest .ensures tt); near = tt; codes = λ n. absurd (omega arith) }
+returns-in-rest g c = record { value = (row-fails _ _ (c .args .entry .now) (c .in-rest .ensures tt), λ n. absurd (omega arith)); near = tt }
 
 pub returns-in-rest-terms : need.returns-in-rest-terms
 returns-in-rest-terms g c =
     let row = c .in-Some .ensures tt in
     let same = c .rule-reckoning .ensures .reckoning ∙ ap reckoning (row .1) in
     let fails = subst (λ k. Span-fits k (c .args .entry .now .head .span) → ⊥) same (c .in-rest-terms .ensures tt) in
-    record { value = span-fails _ _ (c .args .entry .now) (row .0) fails; near = tt; codes = λ n. absurd (omega arith) }
+    record { value = (span-fails _ _ (c .args .entry .now) (row .0) fails, λ n. absurd (omega arith)); near = tt }
 
 pub returns-in-rest-thousandths : need.returns-in-rest-thousandths
 returns-in-rest-thousandths g c =
     let row = c .in-Some .ensures tt in
     let same = c .rule-reckoning .ensures .reckoning ∙ ap reckoning (row .1) in
     let span = subst (λ k. Span-fits k (c .args .entry .now .head .span)) same (c .in-Some-terms .ensures tt .0) in
-    record { value = quantity-fails _ _ (c .args .entry .now) (row .0) span (c .in-rest-thousandths .ensures tt .value); near = tt; codes = λ n. absurd (omega arith) }
+    record { value = (quantity-fails _ _ (c .args .entry .now) (row .0) span (c .in-rest-thousandths .ensures tt .value), λ n. absurd (omega arith)); near = tt }
 
 pub returns-in-Break-factor : need.returns-in-Break-factor
 returns-in-Break-factor g c =
@@ -34,14 +34,14 @@ returns-in-Break-factor g c =
     let lack = c .in-Break-factor .ensures tt in
     let least = lack-refused (c .args .building .now .life) (g .S·FactorSource .known (c .args .source .now)) (c .args .entry .now) _ (row .0) same (c .in-Some-terms .ensures tt .0) (c .in-Some-thousandths .ensures tt .value .0) _ (lack .1) in
     let exit = err-from-errBy (c .from-residual .result) (c .from-residual .ensures .1) in
-    rw (exit .1, exit .2) (record { value = least; near = tt; codes = λ n. (_, lack .1, ap (λ asked. asked ∷ c .in-Break-factor .field-0 .0 .lacking ∷ []) (lack .0)) })
+    rw (exit .1, exit .2) (record { value = (least, λ n. (_, lack .1, ap (λ asked. asked ∷ c .in-Break-factor .field-0 .0 .lacking ∷ []) (lack .0))); near = tt })
 
 pub returns-then-not-unit-fits : need.returns-then-not-unit-fits
 returns-then-not-unit-fits g c =
     let row = c .in-Some .ensures tt in
     let same = c .rule-reckoning .ensures .reckoning ∙ ap reckoning (row .1) in
     let least = unit-refused (c .args .building .now .life) (g .S·FactorSource .known (c .args .source .now)) (c .args .entry .now) _ (row .0) same (c .in-Some-terms .ensures tt .0) (c .in-Some-thousandths .ensures tt .value .0) _ _ (c .in-Continue-factor .ensures tt) (c .if-not-unit-fits .ensures tt) in
-    record { value = least; near = tt; codes = λ n. absurd (omega arith) }
+    record { value = (least, λ n. absurd (omega arith)); near = tt }
 
 pub grams-requires : need.grams-requires
 grams-requires g c t =
@@ -60,7 +60,7 @@ returns-in-rest-grams g c =
     let terms = c .in-Some-terms .ensures tt in
     let thousandths = c .in-Some-thousandths .ensures tt .value in
     let least = weight-refused (c .args .building .now .life) (g .S·FactorSource .known (c .args .source .now)) (c .args .entry .now) _ (row .0) same (terms .0) (thousandths .0) _ _ (c .in-Continue-factor .ensures tt) (c .if-not-unit-fits .ensures tt) _ _ _ (thousandths .1) (terms .1) (terms .2) (c .in-rest-grams .ensures tt) in
-    record { value = least; near = tt; codes = λ n. absurd (omega arith) }
+    record { value = (least, λ n. absurd (omega arith)); near = tt }
 
 pub ghost-result : need.ghost-result
 ghost-result g c =
@@ -79,4 +79,4 @@ returns g c =
     let q = c .in-Some-thousandths .ensures tt .value in
     let grams = c .in-Some-grams .ensures tt in
     let w = weighed y known e _ (row .0) same (terms .0) (q .0) _ _ (c .in-Continue-factor .ensures tt) (c .if-not-unit-fits .ensures tt) _ _ _ (q .1) (terms .1) (terms .2) (grams .0) _ (grams .1) in
-    record { value = (w .0, λ i. record { row = row .1 i; span = e .head .span; code = e .head .code; thousandths = q .1 i; grams = w .1 i }); near = w .2; codes = tt }
+    record { value = ((w .0, λ i. record { row = row .1 i; span = e .head .span; code = e .head .code; thousandths = q .1 i; grams = w .1 i }), tt); near = w .2 }
