@@ -8,11 +8,11 @@ use Rattle.factors.specs.Maps.{Map}
 use Rattle.refusals.specs.Refusals.{Conditions, Kept, Least}
 use Rattle.refusals.proofs.Deciding.{Below-all, least-on, least-here}
 use Rattle.booking.specs.declared.entry.Entry.{Entry}
-use Rattle.booking.specs.Booked.{Has, factor, unit-of, entry-weight, content}
+use Rattle.booking.specs.Booked.{Has, factor, unit-of, entry-product, content}
 use Rattle.booking.specs.Quantities.{Quantity-in-range}
 use Rattle.booking.specs.Reckonings.{Span-fits, unit-fits}
 use Rattle.booking.specs.Rows.{Row-range, reckoning}
-use Rattle.booking.specs.Weights.{Weight-range}
+use Rattle.booking.specs.Weights.{Product-range}
 
 module _ (y : ℕ) (known : Map) (e : Entry) where
   abbrev row-asked : Type 0
@@ -30,14 +30,14 @@ module _ (y : ℕ) (known : Map) (e : Entry) where
   abbrev unit-asked : Type 0
   unit-asked = T (unit-fits (reckoning (e .head .row)) (unit-of (factor y known e)))
 
-  abbrev weight-asked : Type 0
-  weight-asked = Weight-range (entry-weight y known e)
+  abbrev product-asked : Type 0
+  product-asked = Product-range (entry-product y known e)
 
-  abbrev from-weight : Conditions
-  from-weight = (10, weight-asked) ∷ []
+  abbrev from-product : Conditions
+  from-product = (10, product-asked) ∷ []
 
   abbrev from-unit : Conditions
-  from-unit = (9, unit-asked) ∷ from-weight
+  from-unit = (9, unit-asked) ∷ from-product
 
   abbrev from-factor : Conditions
   from-factor = (8, factor-asked) ∷ from-unit
@@ -81,12 +81,12 @@ module _ (y : ℕ) (known : Map) (e : Entry) where
 
   pub unit-fails : row-asked → span-asked → quantity-asked → factor-asked → (unit-asked → ⊥) → Least (content y known e) 9
   unfolding content
-  unit-fails p5 p6 p7 p8 fails = least-on to-factor from-unit 9 (p5, (p6, (p7, (p8, tt)))) (least-here 9 from-weight fails (omega arith, tt))
+  unit-fails p5 p6 p7 p8 fails = least-on to-factor from-unit 9 (p5, (p6, (p7, (p8, tt)))) (least-here 9 from-product fails (omega arith, tt))
 
-  pub weight-fails : row-asked → span-asked → quantity-asked → factor-asked → unit-asked → (weight-asked → ⊥) → Least (content y known e) 10
+  pub product-fails : row-asked → span-asked → quantity-asked → factor-asked → unit-asked → (product-asked → ⊥) → Least (content y known e) 10
   unfolding content
-  weight-fails p5 p6 p7 p8 p9 fails = least-on to-unit from-weight 10 (p5, (p6, (p7, (p8, (p9, tt))))) (least-here 10 [] fails tt)
+  product-fails p5 p6 p7 p8 p9 fails = least-on to-unit from-product 10 (p5, (p6, (p7, (p8, (p9, tt))))) (least-here 10 [] fails tt)
 
-  pub passes : row-asked → span-asked → quantity-asked → factor-asked → unit-asked → weight-asked → Kept (content y known e)
+  pub passes : row-asked → span-asked → quantity-asked → factor-asked → unit-asked → product-asked → Kept (content y known e)
   unfolding content
   passes p5 p6 p7 p8 p9 p10 = (p5, (p6, (p7, (p8, (p9, (p10, tt))))))

@@ -12,12 +12,12 @@ use Rattle.refusals.specs.Refusals.{Kept, Least}
 use Rattle.booking.specs.declared.entry.Entry.{Entry}
 use Rattle.booking.specs.declared.reckoning.Reckoning.{Reckoning}
 use Rattle.booking.specs.declared.reckoning.Reckoning.the-variants.{Once, Hauled, Yearly, Renewed, Refilled}
-use Rattle.booking.specs.Booked.{Has, amount-of, unit-of, factor, entry-weight, entry-divisor, exact-grams, content}
+use Rattle.booking.specs.Booked.{Has, amount-of, unit-of, factor, entry-product, entry-divisor, exact-grams, content}
 use Rattle.booking.specs.Quantities.{Quantity-in-range, booked-thousandths}
 use Rattle.booking.specs.Reckonings.{Span-fits, multiplier, divisor, unit-fits}
 use Rattle.booking.specs.Rows.{Row-range, reckoning}
-use Rattle.booking.specs.Weights.{weight, Weight-range, exact-divisor, Grams-range}
-use Rattle.booking.proofs.Contents.{factor-fails, unit-fails, weight-fails, passes}
+use Rattle.booking.specs.Weights.{product, Product-range, exact-divisor, Grams-range}
+use Rattle.booking.proofs.Contents.{factor-fails, unit-fails, product-fails, passes}
 
 -- a divisor is no more than the longest span
 pub divisor-range : (k : Reckoning) (s : ℕ) → Span-fits k s → (0 < divisor k s) × (divisor k s ≤ 100)
@@ -28,7 +28,7 @@ divisor-range Renewed s fits = (omega arith, omega arith)
 divisor-range Refilled s fits = (omega arith, omega arith)
 
 -- the grams of a weight in range
-pub grams-range : (w d g : ℕ) → Weight-range w → 0 < d → g ≡ rounded w (exact-divisor d) → Grams-range g
+pub grams-range : (w d g : ℕ) → Product-range w → 0 < d → g ≡ rounded w (exact-divisor d) → Grams-range g
 grams-range w d g l h is = subst Grams-range (sym is) (rounded-most w (10000 * d) 100000000000000 (omega arith) (omega arith))
 
 module _ (y : ℕ) (known : Map) (e : Entry) (k : Reckoning) (row : Row-range (e .head .row)) (same : k ≡ reckoning (e .head .row)) (span : Span-fits k (e .head .span)) (quantity : Quantity-in-range (e .quantity)) where
@@ -49,8 +49,8 @@ module _ (y : ℕ) (known : Map) (e : Entry) (k : Reckoning) (row : Row-range (e
     unit-refused f = unit-fails y known e row span-ok quantity has-ok (λ t. subst T (sym (f ∙ unit-is)) t)
 
     module _ (fits : true ≡ unit-fits k u) (q m d : ℕ) (q-is : q ≡ booked-thousandths (e .quantity)) (m-is : m ≡ multiplier k y (e .head .span)) (d-is : d ≡ divisor k (e .head .span)) where
-      weight-is : weight q a m ≡ entry-weight y known e
-      weight-is i = weight (q-is i) (amount-of (sym is i)) ((m-is ∙ (λ j. multiplier (same j) y (e .head .span))) i)
+      product-is : product q a m ≡ entry-product y known e
+      product-is i = product (q-is i) (amount-of (sym is i)) ((m-is ∙ (λ j. multiplier (same j) y (e .head .span))) i)
 
       divisor-is : exact-divisor d ≡ entry-divisor y known e
       divisor-is i = exact-divisor ((d-is ∙ (λ j. divisor (same j) (e .head .span))) i)
@@ -58,12 +58,12 @@ module _ (y : ℕ) (known : Map) (e : Entry) (k : Reckoning) (row : Row-range (e
       unit-ok : T (unit-fits (reckoning (e .head .row)) (unit-of (factor y known e)))
       unit-ok = subst T (fits ∙ unit-is) tt
 
-      pub weight-refused : (Weight-range (weight q a m) → ⊥) → Least (content y known e) 10
-      weight-refused out = weight-fails y known e row span-ok quantity has-ok unit-ok (λ l. out (subst Weight-range (sym weight-is) l))
+      pub product-refused : (Product-range (product q a m) → ⊥) → Least (content y known e) 10
+      product-refused out = product-fails y known e row span-ok quantity has-ok unit-ok (λ l. out (subst Product-range (sym product-is) l))
 
       -- an entry that passes all conditions, and its grams g
-      pub weighed : Weight-range (weight q a m) → (g : ℕ) → g ≡ rounded (weight q a m) (exact-divisor d) → Kept (content y known e) × (g ≡ rounded (entry-weight y known e) (entry-divisor y known e)) × Within-half (pos g) (exact-grams y known e)
+      pub weighed : Product-range (product q a m) → (g : ℕ) → g ≡ rounded (product q a m) (exact-divisor d) → Kept (content y known e) × (g ≡ rounded (entry-product y known e) (entry-divisor y known e)) × Within-half (pos g) (exact-grams y known e)
       weighed light g g-is =
           let h : 0 < entry-divisor y known e = omega (arith, divisor-range (reckoning (e .head .row)) (e .head .span) span-ok) in
-          let is = g-is ∙ (λ i. rounded (weight-is i) (divisor-is i)) in
-          (passes y known e row span-ok quantity has-ok unit-ok (subst Weight-range weight-is light), is, subst (λ n. Within-half (pos n) (exact-grams y known e)) (sym is) (rounded-near (entry-weight y known e) (entry-divisor y known e) h))
+          let is = g-is ∙ (λ i. rounded (product-is i) (divisor-is i)) in
+          (passes y known e row span-ok quantity has-ok unit-ok (subst Product-range product-is light), is, subst (λ n. Within-half (pos n) (exact-grams y known e)) (sym is) (rounded-near (entry-product y known e) (entry-divisor y known e) h))

@@ -19,7 +19,7 @@ use Rattle.booking.specs.declared.line.Line.{Line}
 use Rattle.booking.specs.Quantities.{Quantity-in-range, booked-thousandths}
 use Rattle.booking.specs.Reckonings.{Span-fits, multiplier, divisor, unit-fits}
 use Rattle.booking.specs.Rows.{Row-range, row-number, reckoning}
-use Rattle.booking.specs.Weights.{weight, Weight-range, exact-divisor}
+use Rattle.booking.specs.Weights.{product, Product-range, exact-divisor}
 
 -- a code has a factor
 abbrev pub Has : Answer → Type 0
@@ -59,9 +59,9 @@ module _ (y : ℕ) (known : Map) (e : Entry) where
   abbrev pub factor : Answer
   factor = known (e .head .code)
 
-  -- ten thousand times its grams, before it is divided
-  abbrev pub entry-weight : ℕ
-  entry-weight = weight (booked-thousandths (e .quantity)) (amount-of factor) (multiplier (reckoning (e .head .row)) y (e .head .span))
+  -- what is divided to give its grams
+  abbrev pub entry-product : ℕ
+  entry-product = product (booked-thousandths (e .quantity)) (amount-of factor) (multiplier (reckoning (e .head .row)) y (e .head .span))
 
   abbrev pub entry-divisor : ℕ
   entry-divisor = exact-divisor (divisor (reckoning (e .head .row)) (e .head .span))
@@ -74,16 +74,16 @@ module _ (y : ℕ) (known : Map) (e : Entry) where
       ∷ (7, Quantity-in-range (e .quantity))
       ∷ (8, Has factor)
       ∷ (9, T (unit-fits (reckoning (e .head .row)) (unit-of factor)))
-      ∷ (10, Weight-range entry-weight)
+      ∷ (10, Product-range entry-product)
       ∷ []
 
   -- its exact weight in grams
   abbrev pub exact-grams : Fraction
-  exact-grams = over (pos entry-weight) entry-divisor
+  exact-grams = over (pos entry-product) entry-divisor
 
   -- its line: of its exact weight, the nearest gram
   abbrev pub booked : Booked
-  booked = record { row = e .head .row; span = e .head .span; code = e .head .code; thousandths = booked-thousandths (e .quantity); grams = rounded entry-weight entry-divisor }
+  booked = record { row = e .head .row; span = e .head .span; code = e .head .code; thousandths = booked-thousandths (e .quantity); grams = rounded entry-product entry-divisor }
 
   -- r is what booking it answers
   abbrev pub Books : Result Line Refusal → Type 0

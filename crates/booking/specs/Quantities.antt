@@ -8,7 +8,7 @@ use Rattle.exact.specs.Rounding.{Fraction, over, nearest}
 use Rattle.booking.specs.declared.quantity.Quantity.{Quantity}
 use Rattle.booking.specs.declared.quantity.Quantity.the-variants.{Counted, Measured}
 
--- a binary64 number from 0 to 1,000,000: m × 2^e, the power being up e / down e, and negative only where it is zero
+-- a binary64 number from 0 to 1,000,000: it is m × 2^e, with 2^e written as up e / down e, and negative only where it is zero
 abbrev pub Measured-in-range : Float → Type 0
 Measured-in-range nan = ⊥
 Measured-in-range (inf negative) = ⊥

@@ -3,17 +3,17 @@ use mathlib.Core.Bool.{Bool, cond}
 use Prim.Native.Nat.{ℕ, _*_, _≤_}
 use lib.IntN.{ℤ, pos, negℤ}
 
--- ten thousand times the grams, before anything is divided: q thousandths, at the amount f, m times
-abbrev pub weight : ℕ → ℕ → ℕ → ℕ
-weight q f m = q * f * m
+-- what is divided to give grams: q thousandths, at the amount f, m times
+abbrev pub product : ℕ → ℕ → ℕ → ℕ
+product q f m = q * f * m
 
-abbrev pub Weight-range : ℕ → Type 0
-Weight-range w = w ≤ 1000000000000000000
+abbrev pub Product-range : ℕ → Type 0
+Product-range w = w ≤ 1000000000000000000
 
 abbrev pub exact-divisor : ℕ → ℕ
 exact-divisor d = 10000 * d
 
--- the grams of a weight in range
+-- the grams of a product in range: it is divided by 10,000 at least
 abbrev pub Grams-range : ℕ → Type 0
 Grams-range g = g ≤ 100000000000000
 

@@ -1,5 +1,4 @@
-// A measured quantity, taken apart into its binary digits: no floating arithmetic comes near it.
-ghost use mathlib.Core.Path.{_≡_};
+// A measured quantity by its binary digits, without floating-point arithmetic.
 ghost use Prim.Native.Nat.{_^_};
 ghost use lib.IntN.{pos};
 ghost use Rattle.exact.specs.Rounding.{over, Same};
@@ -11,7 +10,7 @@ const SIGN: u64 = 1 << 63;
 
 const DIGITS: u32 = 52;
 
-const LEADING_DIGIT: u64 = 1 << 52;
+const LEADING_DIGIT: u64 = 1 << DIGITS;
 
 // The smallest numbers have the exponent 0 and no leading digit: they are counted in 2 to the power of -1074.
 const SMALLEST: u32 = 1074;
@@ -21,6 +20,7 @@ pub(crate) fn exact_thousandths(x: f64) -> Binary
     requires { ⌜ Measured-in-range x ⌝ }
     ensures { λ r. ⌜ Same (over (pos (r .numerator)) (2 ^ r .shift)) (measured-thousandths x) ⌝ }
 {
+    // In range only zero can be negative, so the sign says nothing.
     let size = x.to_bits() % SIGN;
     let exponent = (size >> DIGITS) as u32;
     let digits = size % LEADING_DIGIT;
@@ -30,6 +30,7 @@ pub(crate) fn exact_thousandths(x: f64) -> Binary
             shift: SMALLEST,
         };
     }
+    // No more than a million has a fraction to shift away: the exponent is far below 1075.
     Binary {
         numerator: (LEADING_DIGIT + digits) * 1_000,
         shift: SMALLEST + 1 - exponent,

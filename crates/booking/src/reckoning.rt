@@ -1,4 +1,4 @@
-// How rows reckon: what they ask of a span and of a unit, and how often and in how many parts an entry counts.
+// How rows reckon: what they ask of a span and of a unit, and what an entry is multiplied and divided by.
 ghost use mathlib.Core.Path.{_≡_};
 ghost use Rattle.std.specs.Options.{Cases};
 ghost use Rattle.feed.specs.Codes.{unit-number};

@@ -2,7 +2,7 @@
 use mathlib.Core.Path.{_≡_}
 use Prim.Native.Nat.{ℕ, _*_, _<_}
 use lib.IntN.{ℤ, pos, natAbs, _+ℤ_, _*ℤ_}
-use lib.Signed.{shrZ, _≤ℤ_, _<ℤ_}
+use lib.Signed.{shrZ, _≤ℤ_}
 
 -- an exact number: a fraction of whole numbers
 pub record Fraction : Type 0 where
@@ -12,7 +12,7 @@ pub record Fraction : Type 0 where
 abbrev pub over : ℤ → ℕ → Fraction
 over n d = record { numerator = n; divisor = d }
 
--- it is a number
+-- its divisor is positive
 abbrev pub Divides : Fraction → Type 0
 Divides x = 0 < x .divisor
 
@@ -46,7 +46,7 @@ nearest x = shrZ (pos 2 *ℤ x .numerator +ℤ pos (x .divisor)) (2 * x .divisor
 abbrev pub rounded : ℕ → ℕ → ℕ
 rounded n d = natAbs (nearest (over (pos n) d))
 
--- what holds of a rounding
+-- the laws of rounding
 pub record Rounding (round : Fraction → ℤ) : Type 0 where
   pub is-nearest : (x : Fraction) → Divides x → Nearest (round x) x
   pub only : (x : Fraction) (r : ℤ) → Divides x → Nearest r x → r ≡ round x

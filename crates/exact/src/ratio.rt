@@ -17,6 +17,7 @@ impl Ratio {
         ensures value { λ r. ⌜ r ≡ nearest (over (self .numerator) (self .divisor)) ⌝ }
         ensures laws { λ _. ⌜ Rounding nearest ⌝ }
     {
+        // Rounded down, also below zero, so that what is left is never negative.
         let divisor = i64::from(self.divisor);
         let whole = self.numerator.div_euclid(divisor);
         let rest = self.numerator.rem_euclid(divisor);

@@ -11,6 +11,7 @@ pub(crate) fn nearest(whole: i64, rest: u64, divisor: u64) -> i64
     requires room { ⌜ (0 < rest → whole <ℤ pos (2 ^ 63 - 1)) ⌝ }
     ensures { λ r. ⌜ r ≡ nearest (over (whole *ℤ pos divisor +ℤ pos rest) divisor) ⌝ }
 {
+    // Not by doubling the rest, which could wrap.
     if rest < divisor - rest {
         whole
     } else {

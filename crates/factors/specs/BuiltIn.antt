@@ -11,7 +11,7 @@ abbrev pub warming : List ℕ
 warming =
     3500 ∷ 1430 ∷ 4470 ∷ 124 ∷ 3220 ∷ 14800 ∷ 1340 ∷ 1370 ∷ 9810 ∷ 693 ∷ 1030 ∷ 675 ∷ 794 ∷ 92 ∷ 1640 ∷ []
 
--- code 1 is grid electricity, 5,000 tenths of a gram per kilowatt-hour; the refrigerants have the codes from 101 on, per kilogram
+-- grid electricity (1) in kilowatt-hours (3), and from 101 on the refrigerants in kilograms (4)
 abbrev pub built-in : Map
 built-in c =
     cond (eqb c 1) (has 5000 3)

@@ -1,7 +1,7 @@
 -- Sources over a source. Assumes nothing.
 use mathlib.Core.Bool.{cond, _&&_}
 use Prim.Native.Nat.{ℕ, _-_}
-use lib.Dec.{eqb, ltb, leb}
+use lib.Dec.{eqb, ltb}
 use Rattle.exact.specs.Rounding.{rounded}
 use Rattle.factors.specs.BuiltIn.{built-in}
 use Rattle.factors.specs.Maps.{Answer, Map, has, lacks}

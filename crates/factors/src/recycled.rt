@@ -1,4 +1,4 @@
-// Recycled material, at half of what the new material weighs.
+// Recycled material, at half of the new material's factor.
 ghost use Rattle.factors.specs.Layers.{with-recycled};
 ghost use mathlib.Core.Path.{_≡_};
 ghost use Rattle.exact.specs.Rounding.{rounded};
@@ -8,10 +8,10 @@ use exact::Ratio;
 use feed::factor::Factor;
 use feed::factor::FactorUnit;
 
-// What a recycled material's code is above that of the new material.
-const ABOVE: u32 = 1_000_000;
+// A recycled material has the code of the new one and this.
+const RECYCLED: u32 = 1_000_000;
 
-const LAST: u32 = 1_999_999;
+const LAST_RECYCLED: u32 = 1_999_999;
 
 #[derive(Clone, Copy, Drop)]
 pub struct Recycled<S> {
@@ -22,10 +22,10 @@ pub impl<S: FactorSource> FactorSource for Recycled<S> as RecycledSource {
     ghost known = { λ s. with-recycled (S·FactorSource .known (s .below)) };
 
     fn factor(&self, code: u32) -> Result<Factor, Lack> {
-        if code <= ABOVE || code > LAST {
+        if code <= RECYCLED || code > LAST_RECYCLED {
             return self.below.factor(code);
         }
-        let new = self.below.factor(code - ABOVE)?;
+        let new = self.below.factor(code - RECYCLED)?;
         match new.unit {
             FactorUnit::Tonne => Ok(halved(new)),
             _ => Err(Lack { code }),

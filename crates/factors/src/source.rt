@@ -4,7 +4,7 @@ ghost use Rattle.factors.specs.Maps.{Map, told};
 use crate::lack::Lack;
 use feed::factor::Factor;
 
-// A source means a map: each code leads to a factor, or to the code that is lacking. Asked for a code it answers what its map says.
+// To every code a source has one answer, a factor or a code that it lacks: its map, which is all that generic code knows of it.
 pub trait FactorSource {
     ghost known: { Self → Map };
 

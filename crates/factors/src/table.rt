@@ -12,11 +12,11 @@ const ELECTRICITY_AMOUNT: u32 = 5_000;
 
 const FIRST_REFRIGERANT: u32 = 101;
 
-// A kilogram of a gas that warms as much as one kilogram of carbon dioxide weighs this many tenths of a gram.
+// A kilogram of carbon dioxide in tenths of a gram.
 const KILOGRAM: u32 = 10_000;
 
-// How many times as much as carbon dioxide each refrigerant warms, from code 101 on.
-const WARMING: [u32; 15] = [
+// The global warming potential of each refrigerant, from code 101 on: how many times as much as carbon dioxide it warms.
+const WARMING_POTENTIALS: [u32; 15] = [
     3_500, // R-125
     1_430, // R-134a
     4_470, // R-143a
@@ -50,7 +50,7 @@ pub impl FactorSource for BuiltIn as BuiltInSource {
         if code < FIRST_REFRIGERANT {
             return Err(Lack { code });
         }
-        match WARMING.get((code - FIRST_REFRIGERANT) as usize) {
+        match WARMING_POTENTIALS.get((code - FIRST_REFRIGERANT) as usize) {
             Some(warming) => Ok(Factor {
                 amount: *warming * KILOGRAM,
                 unit: FactorUnit::Kilogram,

@@ -6,7 +6,7 @@ use feed::factor::FactorUnit;
 use std::test::Note as _;
 use std::test::*;
 
-// Name and global warming potential of each refrigerant, in the order of the accounting draft.
+// Name and global warming potential of each refrigerant, in the order of their codes.
 const PRINTED: [(&str, u64); 15] = [
     ("R-125", 3500),
     ("R-134a", 1430),

@@ -1,4 +1,4 @@
-// The worked figures that the rules themselves have to give, for whatever code follows them.
+// The worked figures that the rules have to give, whatever the code does.
 ghost use mathlib.Core.Path.{_≡_};
 ghost use lib.ListN.{length};
 ghost use Rattle.figures.specs.Figures.{figures, Held};

@@ -4,6 +4,7 @@ use mathlib.Core.List.{List, [], _∷_, _++_}
 use Prim.Native.Nat.{ℕ}
 use native.Mathlib.Omega.{arith}
 use lib.ListN.{length, drop}
+use Rattle.std.specs.declared.option.Option.{Option}
 use Rattle.std.specs.declared.result.Result.the-variants.{Ok, Err}
 use Rattle.feed.specs.declared.building.Building.{Building}
 use Rattle.feed.specs.declared.factor.FactorRow.{FactorRow}
@@ -20,7 +21,7 @@ use Rattle.feed.proofs.Running.{hands-next, hands-note}
 use Rattle.refusals.specs.declared.refusal.Refusal.{Refusal}
 use Rattle.refusals.specs.Refusals.{refusal-number}
 use Rattle.refusals.proofs.Deciding.{unbroken}
-use Rattle.listing.specs.Openings.{Account, unbooked, by, project-map, Row-first, Rows, row, passed, ended, Opens, building, none}
+use Rattle.listing.specs.Openings.{Row-first, Rows, row, passed, ended, Begins, building, none, by, project-map, account-with}
 
 -- a feed is read or refused, and not both
 pub not-both : {X : Type 0} (Wanted : ℕ → Type 0) (Value : List ℕ → X → Type 0) (bs : List ℕ) (x : X) (f : Refusal) → Reads Wanted Value bs (Ok x) → Reads Wanted Value bs (Err f) → ⊥
@@ -69,12 +70,13 @@ rows-only bs a b (ended other) (row n rest r one cut reads more) = absurd (other
 rows-only bs a b (ended other) (passed n rest f one cut first reads more) = absurd (other (row-front n rest bs one cut first))
 rows-only bs a b (ended other) (ended other′) = refl
 
-pub opens-only : (feed : List ℕ) (a b : Account) → Opens feed a → Opens feed b → a ≡ b
-opens-only feed a b (building {rows = xs} n rest x reads one cut more) (building {rows = ys} n′ rest′ y reads′ one′ cut′ more′) =
+-- what a feed begins with gives one account
+pub account-only : (feed : List ℕ) (a b : Option Building) (rows rows′ : List FactorRow) → Begins feed a rows → Begins feed b rows′ → account-with a rows ≡ account-with b rows′
+account-only feed a b rows rows′ (building n rest x reads one cut more) (building n′ rest′ y reads′ one′ cut′ more′) =
     let same = front-only n rest n′ rest′ one one′ (sym cut ∙ cut′) in
-    let is : x .life ≡ y .life = ap (λ b. b .life) (reads .1 ∙ sym (reads′ .1)) in
-    let rows-are = rows-only rest xs ys more (subst (λ m. Rows m ys) (sym (same .1)) more′) in
-    (λ i. by (is i) (project-map (rows-are i)))
-opens-only feed a b (building n rest x reads one cut more) (none other) = absurd (other x reads)
-opens-only feed a b (none other) (building n rest x reads one cut more) = absurd (other x reads)
-opens-only feed a b (none other) (none other′) = refl
+    let life : x .life ≡ y .life = ap (λ b. b .life) (reads .1 ∙ sym (reads′ .1)) in
+    let list = rows-only rest rows rows′ more (subst (λ m. Rows m rows′) (sym (same .1)) more′) in
+    (λ i. by (life i) (project-map (list i)))
+account-only feed a b rows rows′ (building n rest x reads one cut more) (none other) = absurd (other x reads)
+account-only feed a b rows rows′ (none other) (building n rest x reads one cut more) = absurd (other x reads)
+account-only feed a b rows rows′ (none other) (none other′) = refl

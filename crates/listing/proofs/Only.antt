@@ -29,9 +29,9 @@ use Rattle.refusals.specs.Refusals.{refusal-number}
 use Rattle.refusals.proofs.Deciding.{least-only, unbroken}
 use Rattle.feed.proofs.Framing.{framed-front, framed-or-not, front-only}
 use Rattle.listing.specs.Lines.{named, note-said, refused, Refused-said, codes-said, outcome-said, Weighs, Note-told, Said, Line}
-use Rattle.listing.specs.Openings.{Account, unbooked, by}
+use Rattle.listing.specs.Openings.{Account, unbooked, by, account-with}
 use Rattle.listing.specs.Listings.{Last-line, Lists, note, last, Listing}
-use Rattle.listing.proofs.Begun.{opens-only}
+use Rattle.listing.proofs.Begun.{account-only}
 
 refused-only : (bs : List ℕ) (m n : ℕ) (s t : List ℕ) → m ≡ n → Refused-said bs m s → Refused-said bs n t → s ≡ t
 refused-only bs m n s t same a b =
@@ -85,5 +85,5 @@ lists-only a k at bs s t (last unframed left) (last unframed′ left′) = last-
 
 pub listing-only : (feed s t : List ℕ) → Listing feed s → Listing feed t → s ≡ t
 listing-only feed s t p q =
-    let same = opens-only feed (p .account) (q .account) (p .opens) (q .opens) in
-    lists-only (p .account) 1 0 feed s t (p .lists) (subst (λ a. Lists a 1 0 feed t) (sym same) (q .lists))
+    let same = account-only feed (p .building) (q .building) (p .rows) (q .rows) (p .begins) (q .begins) in
+    lists-only (account-with (p .building) (p .rows)) 1 0 feed s t (p .lists) (subst (λ a. Lists a 1 0 feed t) (sym same) (q .lists))

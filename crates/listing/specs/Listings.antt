@@ -4,9 +4,12 @@ use mathlib.Core.List.{List, [], _++_}
 use Prim.Native.Nat.{ℕ, _+_, _<_}
 use lib.Chars.{codes}
 use lib.ListN.{length}
+use Rattle.std.specs.declared.option.Option.{Option}
+use Rattle.feed.specs.declared.building.Building.{Building}
+use Rattle.feed.specs.declared.factor.FactorRow.{FactorRow}
 use Rattle.feed.specs.Frames.{Framed, One-note}
 use Rattle.listing.specs.Lines.{named, Line}
-use Rattle.listing.specs.Openings.{Account, Opens}
+use Rattle.listing.specs.Openings.{Account, Begins, account-with}
 
 -- the line for what is left after the last note: nothing, or bytes of which it says why they are refused
 pub record Last-line (a : Account) (k at : ℕ) (bs line : List ℕ) : Type 0 where
@@ -20,6 +23,7 @@ pub data Lists (a : Account) : ℕ → ℕ → List ℕ → List ℕ → Type 0 
 
 -- the listing of a feed, its entries booked by what the feed begins with
 pub record Listing (feed text : List ℕ) : Type 0 where
-  pub account : Account
-  pub opens : Opens feed account
-  pub lists : Lists account 1 0 feed text
+  pub building : Option Building
+  pub rows : List FactorRow
+  pub begins : Begins feed building rows
+  pub lists : Lists (account-with building rows) 1 0 feed text

@@ -18,15 +18,6 @@ use Rattle.factors.specs.Lists.{listed}
 use Rattle.factors.specs.Maps.{Map}
 use Rattle.listing.specs.declared.opening.Opening.{Opening}
 
--- what entries are booked by: the building's life in years and the factors, if there is a building
-pub data Account : Type 0 where
-  unbooked : Account
-  by : (y : ℕ) (known : Map) → Account
-
--- the factors of a project: recycled material over the built-in defaults over its own list
-abbrev pub project-map : List FactorRow → Map
-project-map rows = with-recycled (with-defaults (listed rows))
-
 -- the bytes begin with a note of the kind of factor rows
 abbrev pub Row-first : List ℕ → Type 0
 Row-first bs = Framed bs × (note-kind (first-note bs) ≡ 2)
@@ -37,10 +28,19 @@ pub data Rows : List ℕ → List FactorRow → Type 0 where
   passed : {bs : List ℕ} {rows : List FactorRow} (n rest : List ℕ) (f : Refusal) → One-note n → bs ≡ n ++ rest → Row-first n → Reads {X = FactorRow} (λ k. k ≡ 2) Is-factor-row n (Err f) → Rows rest rows → Rows bs rows
   ended : {bs : List ℕ} → (Row-first bs → ⊥) → Rows bs []
 
--- the first note is the building, and the factor rows follow it
-pub data Opens (feed : List ℕ) : Account → Type 0 where
-  building : {rows : List FactorRow} (n rest : List ℕ) (b : Building) → Reads (λ k. k ≡ 1) Is-building feed (Ok b) → One-note n → feed ≡ n ++ rest → Rows rest rows → Opens feed (by (b .life) (project-map rows))
-  none : ((b : Building) → Reads (λ k. k ≡ 1) Is-building feed (Ok b) → ⊥) → Opens feed unbooked
+-- a feed begins with a building, which is its first note, and the factor rows after it; or it has neither
+pub data Begins (feed : List ℕ) : Option Building → List FactorRow → Type 0 where
+  building : {rows : List FactorRow} (n rest : List ℕ) (b : Building) → Reads (λ k. k ≡ 1) Is-building feed (Ok b) → One-note n → feed ≡ n ++ rest → Rows rest rows → Begins feed (Some b) rows
+  none : ((b : Building) → Reads (λ k. k ≡ 1) Is-building feed (Ok b) → ⊥) → Begins feed None []
+
+-- what entries are booked by: the building's life in years and the factors, if there is a building
+pub data Account : Type 0 where
+  unbooked : Account
+  by : (y : ℕ) (known : Map) → Account
+
+-- the factors of a project: recycled material over the built-in defaults over its own list
+abbrev pub project-map : List FactorRow → Map
+project-map rows = with-recycled (with-defaults (listed rows))
 
 abbrev pub account-with : Option Building → List FactorRow → Account
 account-with None rows = unbooked

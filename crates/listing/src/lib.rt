@@ -2,7 +2,7 @@
 mod fields;
 mod lines;
 pub mod opening;
-mod weights;
+mod outcomes;
 mod whole;
 
 pub use lines::line;

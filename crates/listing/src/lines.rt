@@ -14,7 +14,7 @@ use crate::fields::factor;
 use crate::fields::measured;
 use crate::fields::withdrawal;
 use crate::opening::Opening;
-use crate::weights::weight;
+use crate::outcomes::outcome;
 use booking::CountedAsEntry;
 use booking::Entry;
 use booking::MeasuredAsEntry;
@@ -45,12 +45,12 @@ fn told(heap: Global, opening: &Opening, note: &Note) -> Result<String, AllocErr
     ensures { λ r. ⌜ made r (λ s. (bytes : List ℕ) → Says bytes (now (note .entry)) → Note-told (account-of (now (opening .entry))) bytes (string-bytes s)) ⌝ }
 {
     let said = said(heap, note)?;
-    let weight = match note {
-        Note::Counted(e) => weight(heap, opening, &Entry::from(*e))?,
-        Note::Measured(e) => weight(heap, opening, &Entry::from(*e))?,
+    let outcome = match note {
+        Note::Counted(e) => outcome(heap, opening, &Entry::from(*e))?,
+        Note::Measured(e) => outcome(heap, opening, &Entry::from(*e))?,
         _ => return Ok(said),
     };
-    format!(heap, "{said}{weight}")
+    format!(heap, "{said}{outcome}")
 }
 
 // What a note says: its kind in a word, and its fields by name.

@@ -1,7 +1,7 @@
 // Why a call is refused.
 ghost use mathlib.Core.Path.{_≡_};
-ghost use Rattle.refusals.specs.declared.refusal.Refusal.the-variants.{FactorLacking};
-ghost use Rattle.refusals.specs.Refusals.{refusal-number};
+ghost use mathlib.Core.List.{[], _∷_};
+ghost use Rattle.refusals.specs.Refusals.{refusal-number, refusal-codes};
 use crate::lacking::Lacking;
 use crate::lacking::LackingDebug;
 use crate::lacking::LackingEq;
@@ -10,7 +10,7 @@ use crate::lacking::LackingPartialEq;
 // Each refusal has a number, and where several hold the smallest is told.
 #[derive(Clone, Copy, Debug, PartialEq, Eq)]
 pub enum Refusal {
-    // No note can be told from the bytes: they are too few for its head, or for the length that it gives.
+    // No note can be told from the bytes: they are too few for its head or for the length that it gives, or that length is less than a head's.
     Unframed,
     // The note is of another kind than the call reads.
     UnwantedKind,
@@ -28,7 +28,7 @@ pub enum Refusal {
     FactorLacking(Lacking),
     // The factor's unit does not fit the row.
     UnfitUnit,
-    // The entry weighs more than a line holds.
+    // Thousandths, amount and multiplier make a product above 10^18, before anything is divided.
     TooLarge,
 }
 
@@ -52,7 +52,7 @@ impl Refusal {
 }
 
 pub impl From<Lacking> for Refusal as FactorLackingRefusal {
-    ghost converts = { λ lacking r. r ≡ FactorLacking lacking };
+    ghost converts = { λ l r. (refusal-number r ≡ 8) × (refusal-codes r ≡ l .asked ∷ l .lacking ∷ []) };
 
     fn from(lacking: Lacking) -> Refusal {
         Refusal::FactorLacking(lacking)

@@ -2,7 +2,7 @@
 ghost use Rattle.std.specs.Orderings.{When};
 ghost use Rattle.std.specs.Of.Vec.{vec-items};
 ghost use Rattle.std.specs.Vec.{made};
-ghost use Rattle.listing.specs.Openings.{Row-first, Rows, Opens, account-of};
+ghost use Rattle.listing.specs.Openings.{Row-first, Rows, Begins};
 use crate::opening::Opening;
 use feed::building::Building;
 use feed::factor::FactorRow;
@@ -14,18 +14,24 @@ use std::alloc::AllocError;
 use std::alloc::Global;
 
 impl Opening {
-    // The first note, if it is a building, and the run of factor rows after it.
+    // The first note, if it is a building, and the run of factor rows after it; without a building there is no list either.
     pub fn read(heap: Global, feed: &[u8]) -> Result<Opening, AllocError>
-        ensures { λ r. ⌜ made r (λ o. Opens (now (feed .entry)) (account-of o)) ⌝ }
+        ensures { λ r. ⌜ made r (λ o. Begins (now (feed .entry)) (o .building) (vec-items (o .rows))) ⌝ }
     {
-        let building = match Building::read(feed) {
-            Ok(building) => Some(building),
-            Err(_) => None,
+        let Ok(building) = Building::read(feed) else {
+            return Ok(Opening {
+                building: None,
+                rows: Vec::new(heap),
+            });
         };
+        // Past the first note, which is the building.
         let mut reader = Reader::new(feed);
         reader.next();
         let rows = rows(heap, reader.left().bytes)?;
-        Ok(Opening { building, rows })
+        Ok(Opening {
+            building: Some(building),
+            rows,
+        })
     }
 }
 

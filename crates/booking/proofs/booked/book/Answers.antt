@@ -3,11 +3,12 @@ use mathlib.Core.List.{[], _∷_}
 use Prim.Native.Nat.{ℕ, _≤_, _<_}
 use native.Mathlib.Omega.{arith}
 use Rattle.std.proofs.shelf.Results.{err-from-errBy}
+use Rattle.refusals.specs.Refusals.{Least}
 use Rattle.booking.specs.Reckonings.{Span-fits}
 use Rattle.booking.specs.Rows.{reckoning}
 use Rattle.booking.proofs.Contents.{row-fails, span-fails, quantity-fails}
 use Rattle.booking.proofs.Measures.{booked-range}
-use Rattle.booking.proofs.Weighing.{divisor-range, grams-range, lack-refused, unit-refused, weight-refused, weighed}
+use Rattle.booking.proofs.Weighing.{divisor-range, grams-range, lack-refused, unit-refused, product-refused, weighed}
 use Rattle.booking.proofs.booked.book.Needs as need
 
 pub returns-in-rest : need.returns-in-rest
@@ -34,7 +35,8 @@ returns-in-Break-factor g c =
     let lack = c .in-Break-factor .ensures tt in
     let least = lack-refused (c .args .building .now .life) (g .S·FactorSource .known (c .args .source .now)) (c .args .entry .now) _ (row .0) same (c .in-Some-terms .ensures tt .0) (c .in-Some-thousandths .ensures tt .value .0) _ (lack .1) in
     let exit = err-from-errBy (c .from-residual .result) (c .from-residual .ensures .1) in
-    rw (exit .1, exit .2) (record { value = (least, λ n. (_, lack .1, ap (λ asked. asked ∷ c .in-Break-factor .field-0 .0 .lacking ∷ []) (lack .0))); near = tt })
+    let told = exit .2 in
+    rw (exit .1) (record { value = (subst (Least _) (sym (told .0)) least, λ n. (_, lack .1, told .1 ∙ ap (λ asked. asked ∷ c .in-Break-factor .field-0 .0 .lacking ∷ []) (lack .0))); near = tt })
 
 pub returns-then-not-unit-fits : need.returns-then-not-unit-fits
 returns-then-not-unit-fits g c =
@@ -59,7 +61,7 @@ returns-in-rest-grams g c =
     let same = c .rule-reckoning .ensures .reckoning ∙ ap reckoning (row .1) in
     let terms = c .in-Some-terms .ensures tt in
     let thousandths = c .in-Some-thousandths .ensures tt .value in
-    let least = weight-refused (c .args .building .now .life) (g .S·FactorSource .known (c .args .source .now)) (c .args .entry .now) _ (row .0) same (terms .0) (thousandths .0) _ _ (c .in-Continue-factor .ensures tt) (c .if-not-unit-fits .ensures tt) _ _ _ (thousandths .1) (terms .1) (terms .2) (c .in-rest-grams .ensures tt) in
+    let least = product-refused (c .args .building .now .life) (g .S·FactorSource .known (c .args .source .now)) (c .args .entry .now) _ (row .0) same (terms .0) (thousandths .0) _ _ (c .in-Continue-factor .ensures tt) (c .if-not-unit-fits .ensures tt) _ _ _ (thousandths .1) (terms .1) (terms .2) (c .in-rest-grams .ensures tt) in
     record { value = (least, λ n. absurd (omega arith)); near = tt }
 
 pub ghost-result : need.ghost-result

@@ -25,5 +25,5 @@ pub returns : need.returns
 returns c =
     let value =
     no-more _ _ _ _ (c .loop-part .inv) (c .next .result) (c .next .last .self) (c .left .result) _ _ _ (c .in-rest .not-Note) (c .next .ensures .value) (c .left .ensures) (c .in-Continue-last .ensures tt) (c .in-Continue-push-str-2 .ensures tt .bytes) (c .as-str-2 .ensures .value) in
-    let listing : Listing (c .args .feed .now) _ = record { account = _; opens = c .in-Continue-opening .ensures tt; lists = value } in
+    let listing : Listing (c .args .feed .now) _ = record { building = _; rows = _; begins = c .in-Continue-opening .ensures tt; lists = value } in
     record { value = listing; only = λ other more. listing-only _ _ _ more listing }

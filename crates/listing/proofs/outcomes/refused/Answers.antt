@@ -6,7 +6,7 @@ use Rattle.std.specs.Written.{decimal}
 use Rattle.refusals.specs.Refusals.{refusal-number, refusal-codes}
 use Rattle.refusals.proofs.Numbers.{no-codes, number-eight}
 use Rattle.listing.specs.Lines.{refused, codes-said}
-use Rattle.listing.proofs.weights.refused.Needs as need
+use Rattle.listing.proofs.outcomes.refused.Needs as need
 
 pub returns-in-rest : need.returns-in-rest
 returns-in-rest c =

@@ -21,7 +21,7 @@ use std::alloc::AllocError;
 use std::alloc::Global;
 
 // Its thousandths and its grams, or by which number it is refused. Without a building nothing is booked.
-pub(crate) fn weight(heap: Global, opening: &Opening, entry: &Entry) -> Result<String, AllocError>
+pub(crate) fn outcome(heap: Global, opening: &Opening, entry: &Entry) -> Result<String, AllocError>
     ensures { λ r. ⌜ made r (λ s. Weighs (account-of (now (opening .entry))) (Some (now (entry .entry))) (string-bytes s)) ⌝ }
 {
     let Some(building) = &opening.building else {
