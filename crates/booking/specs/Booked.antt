@@ -12,7 +12,7 @@ use Rattle.refusals.specs.declared.lacking.Lacking.{Lacking}
 use Rattle.refusals.specs.declared.refusal.Refusal.{Refusal}
 use Rattle.refusals.specs.Refusals.{refusal-number, refusal-codes, Conditions, Decided}
 use Rattle.factors.specs.Maps.{Answer, Map, has, lacks}
-use Rattle.feed.specs.Codes.{unit-number}
+use Rattle.codes.specs.Codes.{unit-number}
 use Rattle.feed.specs.declared.factor.Factor.{Factor}
 use Rattle.booking.specs.declared.entry.Entry.{Entry}
 use Rattle.booking.specs.declared.line.Line.{Line}

@@ -2,7 +2,7 @@
 use mathlib.Core.Bool.{Bool, not}
 use Prim.Native.Nat.{ℕ, _/_}
 use lib.Dec.{eqb}
-use Rattle.feed.specs.Ranges.{Within}
+use Rattle.codes.specs.Ranges.{Within}
 use Rattle.booking.specs.declared.reckoning.Reckoning.{Reckoning}
 use Rattle.booking.specs.declared.reckoning.Reckoning.the-variants.{Once, Hauled, Yearly, Renewed, Refilled}
 

@@ -2,7 +2,7 @@
 use mathlib.Core.Bool.{Bool, cond, _&&_, _||_}
 use Prim.Native.Nat.{ℕ}
 use lib.Dec.{eqb, leb}
-use Rattle.feed.specs.Ranges.{Within}
+use Rattle.codes.specs.Ranges.{Within}
 use Rattle.booking.specs.declared.reckoning.Reckoning.{Reckoning}
 use Rattle.booking.specs.declared.reckoning.Reckoning.the-variants.{Once, Hauled, Yearly, Renewed, Refilled}
 use Rattle.booking.specs.declared.row.Row.{Row}

@@ -1,9 +1,9 @@
 // How rows reckon: what they ask of a span and of a unit, and what an entry is multiplied and divided by.
 ghost use mathlib.Core.Path.{_≡_};
 ghost use Rattle.std.specs.Options.{Cases};
-ghost use Rattle.feed.specs.Codes.{unit-number};
+ghost use Rattle.codes.specs.Codes.{unit-number};
 ghost use Rattle.booking.specs.Reckonings.{Span-fits, multiplier, divisor, unit-fits};
-use feed::factor::FactorUnit;
+use codes::FactorUnit;
 
 const FARTHEST: u16 = 10_000;
 

@@ -3,7 +3,7 @@ use Prim.Native.Nat.{ℕ}
 use Rattle.std.specs.declared.result.Result.{Result}
 use Rattle.std.specs.declared.result.Result.the-variants.{Ok, Err}
 use Rattle.feed.specs.declared.factor.Factor.{Factor}
-use Rattle.feed.specs.Codes.{unit-number}
+use Rattle.codes.specs.Codes.{unit-number}
 use Rattle.factors.specs.declared.lack.Lack.{Lack}
 
 -- what is answered for a code: a factor, by its amount and the number of its unit, or the code that is lacking

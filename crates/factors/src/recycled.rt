@@ -4,9 +4,9 @@ ghost use mathlib.Core.Path.{_≡_};
 ghost use Rattle.exact.specs.Rounding.{rounded};
 use crate::lack::Lack;
 use crate::source::FactorSource;
+use codes::FactorUnit;
 use exact::Ratio;
 use feed::factor::Factor;
-use feed::factor::FactorUnit;
 
 // A recycled material has the code of the new one and this.
 const RECYCLED: u32 = 1_000_000;

@@ -2,8 +2,8 @@
 ghost use Rattle.factors.specs.BuiltIn.{built-in};
 use crate::lack::Lack;
 use crate::source::FactorSource;
+use codes::FactorUnit;
 use feed::factor::Factor;
-use feed::factor::FactorUnit;
 
 const ELECTRICITY: u32 = 1;
 

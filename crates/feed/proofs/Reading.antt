@@ -8,7 +8,8 @@ use lib.ListN.{length}
 use Rattle.std.specs.declared.result.Result.{Result}
 use Rattle.std.specs.declared.result.Result.the-variants.{Err}
 use Rattle.refusals.specs.declared.refusal.Refusal.{Refusal}
-use Rattle.feed.specs.Frames.{Framed, first-note, note-kind, note-length}
+use Rattle.codes.specs.Codes.{note-length}
+use Rattle.feed.specs.Frames.{Framed, first-note, note-kind}
 use Rattle.feed.specs.Readings.{framing, shape, ranges, Reads}
 use Rattle.refusals.specs.Refusals.{refusal-number, Conditions, Kept, Least, Decided}
 use Rattle.refusals.proofs.Deciding.{least-stop, decided-on, decided-off}

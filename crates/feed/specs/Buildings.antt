@@ -4,9 +4,9 @@ use mathlib.Core.List.{List}
 use Prim.Native.Nat.{ℕ}
 use Rattle.feed.specs.declared.building.Building.{Building}
 use Rattle.feed.specs.declared.building.BuildingNumbers.{BuildingNumbers}
-use Rattle.feed.specs.Codes.{region-number, type-number}
+use Rattle.codes.specs.Codes.{region-number, type-number}
 use Rattle.feed.specs.Fields.{field}
-use Rattle.feed.specs.Ranges.{Area-range, Life-range, Region-range, Sun-range, Type-range, Reference-range}
+use Rattle.codes.specs.Ranges.{Area-range, Life-range, Region-range, Sun-range, Type-range, Reference-range}
 
 abbrev pub building-numbers : List ℕ → BuildingNumbers
 building-numbers note = record {

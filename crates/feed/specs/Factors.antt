@@ -4,7 +4,7 @@ use mathlib.Core.List.{List}
 use Prim.Native.Nat.{ℕ}
 use Rattle.feed.specs.declared.factor.FactorRow.{FactorRow}
 use Rattle.feed.specs.Fields.{field}
-use Rattle.feed.specs.Ranges.{Amount-range, Unit-range}
+use Rattle.codes.specs.Ranges.{Amount-range, Unit-range}
 
 abbrev pub factor-row : List ℕ → FactorRow
 factor-row note = record { code = field note 4 4; amount = field note 8 4; unit = field note 12 2 }

@@ -1,8 +1,8 @@
 -- What a note is, before its fields are looked at. Assumes nothing.
 use mathlib.Core.Path.{_≡_}
-use mathlib.Core.List.{List, [], _∷_}
+use mathlib.Core.List.{List}
 use Prim.Native.Nat.{ℕ, _≤_}
-use lib.ListN.{length, getD, take}
+use lib.ListN.{length, take}
 use Rattle.feed.specs.Fields.{field}
 
 -- the bytes begin with a whole note: four bytes are there, and the length that the first two give is at least 4 and no more than there are
@@ -23,7 +23,3 @@ pub record One-note (note : List ℕ) : Type 0 where
 -- a note's kind: 1 building, 2 factor row, 3 entry, 4 measured entry, 5 withdrawal
 abbrev pub note-kind : List ℕ → ℕ
 note-kind note = field note 2 2
-
--- how many bytes a note of each kind has; 0, which no note has, where there is no such kind
-abbrev pub note-length : ℕ → ℕ
-note-length k = getD (0 ∷ 18 ∷ 14 ∷ 28 ∷ 28 ∷ 12 ∷ []) k 0

@@ -1,5 +1,4 @@
 pub mod Buildings
-pub mod Codes
 pub mod Entries
 pub mod Factors
 pub mod Feeds
@@ -7,5 +6,4 @@ pub mod Fields
 pub mod Frames
 pub mod Heads
 pub mod Notes
-pub mod Ranges
 pub mod Readings

@@ -7,7 +7,8 @@ use Rattle.std.specs.declared.result.Result.{Result}
 use Rattle.refusals.specs.declared.refusal.Refusal.{Refusal}
 use Rattle.feed.specs.Buildings.{building-numbers, Building-in-range}
 use Rattle.feed.specs.Factors.{factor-row, Factor-in-range}
-use Rattle.feed.specs.Frames.{Framed, first-note, note-kind, note-length}
+use Rattle.codes.specs.Codes.{note-length}
+use Rattle.feed.specs.Frames.{Framed, first-note, note-kind}
 use Rattle.refusals.specs.Refusals.{Conditions, Decided}
 
 -- bytes have a first note

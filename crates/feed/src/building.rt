@@ -1,12 +1,9 @@
 // A building: its climate, its type, its size and its years.
-ghost use Rattle.feed.specs.Ranges.{Area-range, Life-range, Sun-range, Reference-range};
+ghost use Rattle.codes.specs.Ranges.{Area-range, Life-range, Sun-range, Reference-range};
+use codes::BuildingType;
+use codes::Region;
 
 mod read;
-mod regions;
-mod types;
-
-pub use regions::Region;
-pub use types::BuildingType;
 
 // Every building that exists keeps these ranges.
 #[derive(Clone, Copy)]

@@ -1,10 +1,8 @@
 // A factor: how much carbon one unit of something stands for.
-ghost use Rattle.feed.specs.Ranges.{Amount-range};
+ghost use Rattle.codes.specs.Ranges.{Amount-range};
+use codes::FactorUnit;
 
 mod read;
-mod units;
-
-pub use units::FactorUnit;
 
 // Every factor that exists keeps its range.
 #[derive(Clone, Copy)]

@@ -3,13 +3,13 @@ ghost use mathlib.Core.Path.{_≡_};
 ghost use mathlib.Core.List.{_++_};
 ghost use Prim.Native.Nat.{_≤_};
 ghost use lib.ListN.{length};
-ghost use Rattle.feed.specs.Codes.{kind-number};
+ghost use Rattle.codes.specs.Codes.{kind-number};
 ghost use Rattle.feed.specs.Frames.{first-note, note-kind};
 ghost use Rattle.feed.specs.Heads.{Is-head};
 ghost use Rattle.feed.specs.Readings.{framing, shape};
 ghost use Rattle.refusals.specs.Refusals.{Decided};
-use crate::kind::Kind;
 use crate::little::u16_at;
+use codes::Kind;
 use refusals::Refusal;
 
 // A note's length and its kind, two bytes each, come before its fields.

@@ -3,7 +3,6 @@ pub mod building;
 pub mod entry;
 pub mod factor;
 pub mod frame;
-pub mod kind;
 mod little;
 pub mod note;
 pub mod reader;

@@ -3,10 +3,10 @@ ghost use mathlib.Core.Path.{_≡_};
 ghost use mathlib.Core.List.{_++_};
 ghost use Prim.Native.Nat.{_≤_};
 ghost use lib.ListN.{length};
-ghost use Rattle.feed.specs.Codes.{kind-number};
-ghost use Rattle.feed.specs.Frames.{Framed, first-note, note-kind, note-length};
+ghost use Rattle.codes.specs.Codes.{kind-number, note-length};
+ghost use Rattle.feed.specs.Frames.{Framed, first-note, note-kind};
 ghost use Rattle.feed.specs.Notes.{Says};
-ghost use Rattle.feed.specs.Ranges.{Kind-range};
+ghost use Rattle.codes.specs.Ranges.{Kind-range};
 ghost use Rattle.feed.specs.Readings.{Reads, shape, ranges};
 ghost use Rattle.refusals.specs.Refusals.{Decided};
 use crate::building::Building;
@@ -16,7 +16,7 @@ use crate::entry::Withdrawal;
 use crate::factor::FactorRow;
 use crate::frame::first_note;
 use crate::frame::kind_of;
-use crate::kind::Kind;
+use codes::Kind;
 use refusals::Refusal;
 
 #[derive(Clone, Copy)]

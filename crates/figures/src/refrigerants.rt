@@ -1,8 +1,8 @@
 // The built-in table, held to figures that were set down from the printed table and not from the code.
+use codes::FactorUnit;
 use factors::BuiltIn;
 use factors::BuiltInSource;
 use factors::FactorSource;
-use feed::factor::FactorUnit;
 use std::test::Note as _;
 use std::test::*;
 

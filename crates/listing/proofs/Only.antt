@@ -23,7 +23,7 @@ use Rattle.booking.specs.Entries.{kind-entry}
 use Rattle.factors.specs.Maps.{Map}
 use Rattle.feed.specs.Frames.{Framed, first-note, note-kind}
 use Rattle.feed.specs.Notes.{Says}
-use Rattle.feed.specs.Ranges.{Kind-range}
+use Rattle.codes.specs.Ranges.{Kind-range}
 use Rattle.feed.specs.Readings.{readable, Reads}
 use Rattle.refusals.specs.Refusals.{refusal-number}
 use Rattle.refusals.proofs.Deciding.{least-only, unbroken}

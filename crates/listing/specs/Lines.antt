@@ -32,7 +32,7 @@ use Rattle.feed.specs.Factors.{factor-row}
 use Rattle.feed.specs.Feeds.{text}
 use Rattle.feed.specs.Frames.{Framed, first-note, note-kind}
 use Rattle.feed.specs.Notes.{Says}
-use Rattle.feed.specs.Ranges.{Kind-range}
+use Rattle.codes.specs.Ranges.{Kind-range}
 use Rattle.feed.specs.Readings.{Reads}
 use Rattle.refusals.specs.Refusals.{refusal-number, refusal-codes}
 use Rattle.listing.specs.Openings.{Account, unbooked, by}

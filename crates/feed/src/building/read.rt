@@ -8,12 +8,12 @@ ghost use Rattle.feed.specs.Readings.{Reads, ranges};
 ghost use Rattle.refusals.specs.Refusals.{Decided};
 use crate::building::Building;
 use crate::building::BuildingNumbers;
-use crate::building::BuildingType;
-use crate::building::Region;
 use crate::frame::note_of_kind;
-use crate::kind::Kind;
 use crate::little::u16_at;
 use crate::little::u32_at;
+use codes::BuildingType;
+use codes::Kind;
+use codes::Region;
 use refusals::Refusal;
 
 const AREA_MAX: u32 = 100_000_000;

@@ -2,18 +2,18 @@
 ghost use mathlib.Core.Path.{_≡_};
 ghost use lib.ListN.{length};
 ghost use Rattle.std.specs.Options.{Cases};
-ghost use Rattle.feed.specs.Codes.{unit-number};
+ghost use Rattle.codes.specs.Codes.{unit-number};
 ghost use Rattle.feed.specs.Factors.{Factor-in-range, Is-factor-row};
 ghost use Rattle.feed.specs.Frames.{Framed, first-note, note-kind};
 ghost use Rattle.feed.specs.Readings.{Reads, ranges};
 ghost use Rattle.refusals.specs.Refusals.{Decided};
 use crate::factor::Factor;
 use crate::factor::FactorRow;
-use crate::factor::FactorUnit;
 use crate::frame::note_of_kind;
-use crate::kind::Kind;
 use crate::little::u16_at;
 use crate::little::u32_at;
+use codes::FactorUnit;
+use codes::Kind;
 use refusals::Refusal;
 
 const AMOUNT_MAX: u32 = 1_000_000_000;

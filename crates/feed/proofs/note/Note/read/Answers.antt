@@ -1,5 +1,5 @@
 use Rattle.feed.specs.Notes.{Says}
-use Rattle.feed.specs.Ranges.{Kind-range}
+use Rattle.codes.specs.Ranges.{Kind-range}
 use Rattle.feed.proofs.Reading.{headed, reads-framed, reads-alone}
 use Rattle.feed.proofs.note.Note.read.Needs as need
 

@@ -1,8 +1,8 @@
 // What factors are per, by the numbers in a feed.
 ghost use mathlib.Core.Path.{_≡_};
 ghost use Rattle.std.specs.Options.{Cases};
-ghost use Rattle.feed.specs.Codes.{unit-number};
-ghost use Rattle.feed.specs.Ranges.{Unit-range};
+ghost use Rattle.codes.specs.Codes.{unit-number};
+ghost use Rattle.codes.specs.Ranges.{Unit-range};
 
 // What a factor's amount is per.
 #[derive(Clone, Copy)]

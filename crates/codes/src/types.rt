@@ -1,8 +1,8 @@
 // What buildings are for, by the numbers in a feed.
 ghost use mathlib.Core.Path.{_≡_};
 ghost use Rattle.std.specs.Options.{Cases};
-ghost use Rattle.feed.specs.Codes.{type-number};
-ghost use Rattle.feed.specs.Ranges.{Type-range};
+ghost use Rattle.codes.specs.Codes.{type-number};
+ghost use Rattle.codes.specs.Ranges.{Type-range};
 
 // What a building is for.
 #[derive(Clone, Copy)]

@@ -1,9 +1,8 @@
 // The kinds of notes.
 ghost use mathlib.Core.Path.{_≡_};
 ghost use Rattle.std.specs.Options.{Cases};
-ghost use Rattle.feed.specs.Codes.{kind-number};
-ghost use Rattle.feed.specs.Frames.{note-length};
-ghost use Rattle.feed.specs.Ranges.{Kind-range};
+ghost use Rattle.codes.specs.Codes.{kind-number, note-length};
+ghost use Rattle.codes.specs.Ranges.{Kind-range};
 
 #[derive(Clone, Copy)]
 pub enum Kind {

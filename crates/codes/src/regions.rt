@@ -1,8 +1,8 @@
 // The climates, by their numbers in a feed.
 ghost use mathlib.Core.Path.{_≡_};
 ghost use Rattle.std.specs.Options.{Cases};
-ghost use Rattle.feed.specs.Codes.{region-number};
-ghost use Rattle.feed.specs.Ranges.{Region-range};
+ghost use Rattle.codes.specs.Codes.{region-number};
+ghost use Rattle.codes.specs.Ranges.{Region-range};
 
 // The climate that a building stands in.
 #[derive(Clone, Copy)]
