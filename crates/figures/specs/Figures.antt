@@ -27,7 +27,7 @@ abbrev pub Measures : (n d thousandths : ℕ) → Type 0
 Measures n d thousandths =
     Quantity-in-range (Measured (round binary64 false n d)) × (booked-thousandths (Measured (round binary64 false n d)) ≡ thousandths)
 
--- each of these holds
+-- a thousandth of a tonne at 5,000 and at 4,999; 0.0625 and 0.0624 measured; a kilogram of R-134a in equipment of 15 years; 30 tonnes over 500 kilometres at 1,290; recycled material, the new material being at 5
 abbrev pub figures : List (Type 0)
 figures =
     Comes-to 1 (λ c. has 5000 1) (entry-of 1 0 7 1) 1
@@ -39,6 +39,7 @@ figures =
     ∷ (with-recycled (λ c. has 5 1) 1000007 ≡ has 3 1)
     ∷ []
 
+-- each of them holds
 abbrev pub Held : List (Type 0) → Type 0
 Held [] = Unit {0}
 Held (P ∷ ps) = P × Held ps
