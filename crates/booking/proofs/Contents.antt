@@ -1,12 +1,11 @@
 -- Which condition on an entry's content fails first. Assumes nothing.
-use mathlib.Core.Path.{_≡_}
 use mathlib.Core.List.{[], _∷_}
 use Prim.Native.Nat.{ℕ}
 use native.Mathlib.Omega.{arith}
 use lib.Dec.{T}
 use Rattle.factors.specs.Maps.{Map}
 use Rattle.refusals.specs.Refusals.{Conditions, Kept, Least}
-use Rattle.refusals.proofs.Deciding.{Below-all, least-on, least-here}
+use Rattle.refusals.proofs.Deciding.{least-on, least-here}
 use Rattle.booking.specs.declared.entry.Entry.{Entry}
 use Rattle.booking.specs.Booked.{Has, factor, unit-of, entry-product, content}
 use Rattle.booking.specs.Quantities.{Quantity-in-range}

@@ -1,11 +1,10 @@
 -- The tests of a measured quantity, and its range. Assumes nothing.
-use mathlib.Core.Path.{_≡_, refl, sym, subst, _∙_}
-use mathlib.Core.Bool.{Bool, true, false, true≢false}
-use Prim.Native.Nat.{ℕ, zero, suc, _+_, _*_, _≤_, _<_}
-use native.Mathlib.Nat.{mul-pos}
+use mathlib.Core.Path.{_≡_, refl, sym, subst}
+use mathlib.Core.Bool.{true, false, true≢false}
+use Prim.Native.Nat.{ℕ, zero, suc, _*_, _≤_, _<_}
 use native.Mathlib.Omega.{arith}
 use borrow.Author.Tests.{ltb-true, ltb-false}
-use lib.Ieee.{Float, nan, inf, fin, up, down, binary64, ofBits, ofFields, odd, isNan, lt}
+use lib.Ieee.{Float, nan, inf, fin, up, down, binary64, ofBits, isNan, lt}
 use lib.IntN.{ℤ, pos, negsuc}
 use Rattle.std.proofs.shelf.Bits.{pow-pos}
 use Rattle.exact.specs.Rounding.{Divides}

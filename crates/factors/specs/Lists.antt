@@ -1,7 +1,6 @@
 -- A project's list of factors. Assumes nothing.
 use mathlib.Core.Bool.{Bool, cond, _&&_}
 use mathlib.Core.List.{List, [], _∷_}
-use Prim.Native.Nat.{ℕ}
 use lib.Dec.{eqb, leb}
 use Rattle.feed.specs.declared.factor.FactorRow.{FactorRow}
 use Rattle.factors.specs.Maps.{Map, has, lacks}

@@ -1,6 +1,6 @@
 -- Reading the first note of bytes, step by step. Assumes nothing.
 use mathlib.Core.Path.{_≡_, sym, ap, subst}
-use mathlib.Core.List.{List, [], _∷_, _++_}
+use mathlib.Core.List.{List, _++_}
 use Prim.Native.Nat.{ℕ, _≤_}
 use native.Mathlib.Omega.{arith}
 use lib.Dec.{lit<, lit≤}
@@ -8,8 +8,7 @@ use lib.ListN.{length}
 use Rattle.std.specs.declared.result.Result.{Result}
 use Rattle.std.specs.declared.result.Result.the-variants.{Err}
 use Rattle.refusals.specs.declared.refusal.Refusal.{Refusal}
-use Rattle.codes.specs.Codes.{note-length}
-use Rattle.feed.specs.Frames.{Framed, first-note, note-kind}
+use Rattle.feed.specs.Frames.{Framed, first-note}
 use Rattle.feed.specs.Readings.{framing, shape, ranges, Reads}
 use Rattle.refusals.specs.Refusals.{refusal-number, Conditions, Kept, Least, Decided}
 use Rattle.refusals.proofs.Deciding.{least-stop, decided-on, decided-off}

@@ -15,7 +15,6 @@ use Rattle.feed.specs.declared.reader.Reader.{Reader}
 use Rattle.refusals.proofs.Numbers.{number-one}
 use Rattle.feed.specs.Feeds.{text, left-of, Hands, Stays, Spent, Answered, Run, opened, called, parts, Placed, Again, Ends, Lawful}
 use Rattle.feed.specs.Frames.{Framed, One-note}
-use Rattle.refusals.specs.Refusals.{refusal-number}
 use Rattle.feed.proofs.Framing.{one-first, first-whole}
 
 -- the note that is handed out is what comes next in the feed

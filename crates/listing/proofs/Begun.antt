@@ -1,6 +1,6 @@
 -- The beginning of a feed, and that it has one. Assumes nothing.
 use mathlib.Core.Path.{_≡_, refl, sym, ap, subst, _∙_}
-use mathlib.Core.List.{List, [], _∷_, _++_}
+use mathlib.Core.List.{List, _∷_, _++_}
 use Prim.Native.Nat.{ℕ}
 use native.Mathlib.Omega.{arith}
 use lib.ListN.{length, drop}
@@ -11,12 +11,11 @@ use Rattle.feed.specs.declared.factor.FactorRow.{FactorRow}
 use Rattle.feed.specs.declared.reader.Next.{Next}
 use Rattle.feed.specs.declared.reader.Next.the-variants.{Note, End, Refused}
 use Rattle.feed.specs.declared.reader.Reader.{Reader}
-use Rattle.feed.specs.Buildings.{Is-building}
 use Rattle.feed.specs.Factors.{factor-row, Is-factor-row}
 use Rattle.feed.specs.Feeds.{text, left-of, Opened, Answered}
 use Rattle.feed.specs.Frames.{Framed, One-note, first-note, note-kind}
 use Rattle.feed.specs.Readings.{Reads, readable}
-use Rattle.feed.proofs.Framing.{one-first, framed-one, first-one, first-whole, framed-front, front-only}
+use Rattle.feed.proofs.Framing.{one-first, first-one, first-whole, framed-front, front-only}
 use Rattle.feed.proofs.Running.{hands-next, hands-note}
 use Rattle.refusals.specs.declared.refusal.Refusal.{Refusal}
 use Rattle.refusals.specs.Refusals.{refusal-number}

@@ -7,7 +7,7 @@ use Rattle.feed.specs.declared.reader.Next.{Next}
 use Rattle.feed.specs.declared.reader.Next.the-variants.{Note}
 use Rattle.feed.specs.declared.reader.Part.{Part}
 use Rattle.feed.specs.declared.reader.Reader.{Reader}
-use Rattle.feed.specs.Feeds.{text, left-of, Opened, Hands, Stays, Answered, Is-left}
+use Rattle.feed.specs.Feeds.{text, left-of, Opened, Hands, Answered, Is-left}
 use Rattle.feed.proofs.Running.{hands-next, hands-note, stays-left, no-note}
 use Rattle.listing.specs.Lines.{Line}
 use Rattle.listing.specs.Openings.{Account}

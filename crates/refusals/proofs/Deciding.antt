@@ -1,14 +1,14 @@
 -- Which refusal is told: laws of `Decided`. Assumes nothing.
 use mathlib.Core.Path.{_≡_, refl}
 use mathlib.Core.Logic.{_⊎_, inl, inr, ⊎-elim}
-use mathlib.Core.List.{List, [], _∷_, _++_}
+use mathlib.Core.List.{[], _∷_, _++_}
 use Prim.Native.Nat.{ℕ, _≤_, _<_}
 use native.Mathlib.Omega.{arith}
 use Rattle.std.proofs.str.Laws.{order}
 use Rattle.std.specs.declared.result.Result.{Result}
 use Rattle.std.specs.declared.result.Result.the-variants.{Ok, Err}
 use Rattle.refusals.specs.declared.refusal.Refusal.{Refusal}
-use Rattle.refusals.specs.Refusals.{refusal-number, Conditions, Kept, Broken, Least, Decided}
+use Rattle.refusals.specs.Refusals.{Conditions, Kept, Broken, Least, Decided}
 
 kept-both : (cs ds : Conditions) → Kept cs → Kept ds → Kept (cs ++ ds)
 kept-both [] ds k l = l

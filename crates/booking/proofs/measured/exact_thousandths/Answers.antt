@@ -1,7 +1,6 @@
 use mathlib.Core.Path.{refl, sym, subst}
 use native.Mathlib.Omega.{arith}
 use lib.Dec.{T}
-use lib.Ieee.{binary64, fits}
 use Rattle.booking.proofs.Patterns.{a-number, exponent-small, exact-low, exact-high}
 use Rattle.booking.proofs.measured.exact_thousandths.Needs as need
 

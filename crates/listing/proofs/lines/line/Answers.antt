@@ -1,7 +1,5 @@
-use mathlib.Core.Path.{_≡_, refl, sym, ap, subst, _∙_}
 use Rattle.std.proofs.shelf.Results.{made-weaker}
 use Rattle.std.specs.Of.String.{string-bytes}
-use Rattle.std.specs.declared.result.Result.the-variants.{Ok, Err}
 use Rattle.feed.specs.Frames.{first-note}
 use Rattle.listing.specs.Lines.{Line, Said}
 use Rattle.listing.specs.Openings.{account-of}

@@ -1,8 +1,6 @@
 use mathlib.Core.Path.{_≡_, sym, ap, _∙_}
 use mathlib.Core.List.{[], _++_, append-nil}
-use lib.Chars.{codes}
 use Rattle.std.proofs.shelf.Results.{made-weaker}
-use Rattle.std.specs.Written.{decimal}
 use Rattle.refusals.specs.Refusals.{refusal-number, refusal-codes}
 use Rattle.refusals.proofs.Numbers.{no-codes, number-eight}
 use Rattle.listing.specs.Lines.{refused, codes-said}

@@ -1,4 +1,4 @@
-use Rattle.listing.proofs.Runs.{none-yet, no-more, another-kind, one-more, passed-over}
+use Rattle.listing.proofs.Runs.{no-more, another-kind, one-more, passed-over}
 use Rattle.listing.proofs.opening.read.rows.Needs as need
 
 pub returns-then-not-is-factor-row : need.returns-then-not-is-factor-row
