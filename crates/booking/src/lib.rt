@@ -1,4 +1,6 @@
 // What an entry weighs: its row's rule, its quantity and its factor, booked in whole grams.
+#![tactic(auto)]
+
 mod booked;
 mod entry;
 mod line;

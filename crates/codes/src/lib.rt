@@ -1,4 +1,6 @@
 // What has a number in a feed and a name in the code: kinds of notes, regions, building types and units.
+#![tactic(auto)]
+
 mod kinds;
 mod regions;
 mod types;

@@ -1,4 +1,6 @@
 // Exact fractions, and the one rounding that whatever is booked or printed goes through.
+#![tactic(auto)]
+
 mod binary;
 mod ratio;
 mod rounding;

@@ -1,4 +1,6 @@
 // The feed: how notes lie end to end in bytes, and what each of them says.
+#![tactic(auto)]
+
 pub mod building;
 pub mod entry;
 pub mod factor;

@@ -1,4 +1,6 @@
 // Lists the feed on standard input: a line for each note, and how the feed ends.
+#![tactic(auto)]
+
 use listing::listing;
 use std::io::Read;
 

@@ -1,4 +1,6 @@
 // The page of a sheet: its rows under the headings of a cut, in whole kilograms that add up.
+#![tactic(auto)]
+
 mod by_row;
 mod by_stage;
 mod by_type;

@@ -1,4 +1,6 @@
 // Why calls are refused, and which of several reasons is told.
+#![tactic(auto)]
+
 mod lacking;
 mod refusal;
 

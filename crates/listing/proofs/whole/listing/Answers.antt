@@ -17,11 +17,11 @@ loop-part-smaller c =
 
 pub loop-part-preserved : goal.loop-part-preserved
 loop-part-preserved c =
-    one_more _ _ _ _ c.loop-part.invariant c.in-Note.part c.next.new.self _ _ _ c.in-Note.ensures.value c.in-ok-line.ensures.value c.in-ok-push-str.ensures.bytes c.as-str.ensures.value
+    one_more _ _ _ _ c.loop-part.invariant c.in-Note.part c.next.new.self _ _ _ c.in-Note.ensures.value c.in_ok-line.ensures.value c.in_ok-push_str.ensures.bytes c.as_str.ensures.value
 
 pub returns : goal.returns
 returns c =
     let value =
-    no_more _ _ _ _ c.loop-part.invariant c.next.result c.next.new.self c.left.result _ _ _ c.in-default.not-Note c.next.ensures.value c.left.ensures c.in-ok-last.ensures c.in-ok-push-str-2.ensures.bytes c.as-str-2.ensures.value in
-    let listing : Listing c.args.feed.now _ = record { building = _; rows = _; begins = c.in-ok-opening.ensures; lists = value } in
+    no_more _ _ _ _ c.loop-part.invariant c.next.result c.next.new.self c.left.result _ _ _ c.in_default.not-Note c.next.ensures.value c.left.ensures c.in_ok-last.ensures c.in_ok-push_str-2.ensures.bytes c.as_str-2.ensures.value in
+    let listing : Listing c.args.feed.now _ = record { building = _; rows = _; begins = c.in_ok-opening.ensures; lists = value } in
     record { value = listing; only = λ other more. listing_only _ _ _ more listing }

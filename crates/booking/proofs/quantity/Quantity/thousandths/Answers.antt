@@ -8,24 +8,24 @@ use Rattle.booking.specs.declared.quantity.Quantity.TheVariants.{Counted, Measur
 use Rattle.booking.specs.Quantities.{QuantityInRange, measured_thousandths, exact_thousandths, booked_thousandths}
 use Rattle.booking.proofs.Measures.{in_range, nan_out, out_below, out_above, divides}
 use Rattle.booking.proofs.quantity.Quantity.thousandths.Goals as goal
-use Rattle.booking.proofs.quantity.Quantity.thousandths.Goals.{then-is-nan-via-then-is-nan, then-is-nan-via-else-is-nan+then-x, then-is-nan-via-else-is-nan+else-x+then-x-2}
+use Rattle.booking.proofs.quantity.Quantity.thousandths.Goals.{then-is_nan-via-then-is_nan, then-is_nan-via-else-is_nan+then-x, then-is_nan-via-else-is_nan+else-x+then-x-2}
 
-pub returns-then-is-nan : goal.returns-then-is-nan
-returns-then-is-nan c =
+pub returns-then-is_nan : goal.returns-then-is_nan
+returns-then-is_nan c =
     let x = c.in-Measured.x in
     record {
       value = λ r.
           let r' = subst QuantityInRange c.in-Measured.is r in
-          elim c.then-is-nan.branch [
-            | then-is-nan-via-then-is-nan w ↦ nan_out x (sym w.if-is-nan.ensures.value) r'
-            | then-is-nan-via-else-is-nan+then-x w ↦ out_below x w.if-x.true r'
-            | then-is-nan-via-else-is-nan+else-x+then-x-2 w ↦ out_above x w.if-x-2.true r'
+          elim c.then-is_nan.branch [
+            | then-is_nan-via-then-is_nan w ↦ nan_out x (sym w.if-is_nan.ensures.value) r'
+            | then-is_nan-via-else-is_nan+then-x w ↦ out_below x w.if-x.true r'
+            | then-is_nan-via-else-is_nan+else-x+then-x-2 w ↦ out_above x w.if-x-2.true r'
           ];
       near = tt;
     }
 
-pub exact-thousandths-requires : goal.exact-thousandths-requires
-exact-thousandths-requires c t = in_range c.in-Measured.x (sym c.if-is-nan.ensures.value) c.if-x.false c.if-x-2.false
+pub exact_thousandths-requires : goal.exact_thousandths-requires
+exact_thousandths-requires c t = in_range c.in-Measured.x (sym c.if-is_nan.ensures.value) c.if-x.false c.if-x-2.false
 
 divides_all : (q : Quantity) → Divides (exact_thousandths q)
 divides_all (Counted n) = omega arith
@@ -48,5 +48,5 @@ returns-else-x-2 c =
     let f = c.exact_thousandths.result in
     let same = nearest_same (over (pos f.numerator) (2 ^ f.shift)) (measured_thousandths x) (pow_pos f.shift) (divides x) c.exact_thousandths.ensures in
     let h = told (Measured x) c.nearest.result (c.nearest.ensures ∙ same) in
-    let r = in_range x (sym c.if-is-nan.ensures.value) c.if-x.false c.if-x-2.false in
+    let r = in_range x (sym c.if-is_nan.ensures.value) c.if-x.false c.if-x-2.false in
     rw c.in-Measured.is (record { value = (r, h.0); near = h.1 })

@@ -25,8 +25,8 @@ is c =
 natural : (c : goal.After-nearest) → pos 0 ≤ℤ c.nearest.result
 natural c = subst (λ r. pos 0 ≤ℤ r) (sym (is c)) (nearest_natural c.args.self.numerator (2 ^ c.args.self.shift) (pow_pos c.args.self.shift))
 
-pub overflow-cast-result : goal.overflow-cast-result
-overflow-cast-result c = let h = natural c in (yes_non_neg (omega (arith, ints)), search rules)
+pub overflow_cast-result : goal.overflow_cast-result
+overflow_cast-result c = let h = natural c in (yes_non_neg (omega (arith, ints)), search rules)
 
 pub returns : goal.returns
 returns c = let h = natural c in (omega (arith, ints)) ∙ is c

@@ -5,7 +5,7 @@ use Rattle.factors.specs.Lists.{listed}
 use Rattle.factors.specs.Maps.{has}
 use Rattle.factors.proofs.Listed.{answers, passes_code, passes_range}
 use Rattle.factors.proofs.list.ProjectListFactorSource.factor.Goals as goal
-use Rattle.factors.proofs.list.ProjectListFactorSource.factor.Goals.{then-row-code+in-default, else-row-code}
+use Rattle.factors.proofs.list.ProjectListFactorSource.factor.Goals.{then-row-code+in_default, else-row-code}
 
 abbrev row_at : List FactorRow → ℕ → FactorRow
 row_at rows i = get_or rows i (record { code = 0; amount = 0; unit = 0 })
@@ -27,7 +27,7 @@ loop-row-preserved c =
     let i = c.loop-row.row-index in
     let next = sym (at rows i c.args.code c.loop-row-test.true) ∙ c.loop-row.invariant in
     elim c.if-row-code.branch [
-      | then-row-code+in-default w ↦ sym (passes_range (row_at rows i) (drop (i + 1) rows) c.args.code w.in-default.ensures) ∙ next
+      | then-row-code+in_default w ↦ sym (passes_range (row_at rows i) (drop (i + 1) rows) c.args.code w.in_default.ensures) ∙ next
       | else-row-code w ↦ sym (passes_code (row_at rows i) (drop (i + 1) rows) c.args.code w.if-row-code.false) ∙ next
     ]
 

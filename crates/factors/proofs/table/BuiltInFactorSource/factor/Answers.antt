@@ -5,8 +5,8 @@ use Rattle.factors.proofs.table.BuiltInFactorSource.factor.Goals as goal
 found : (c : goal.After-row-known·1) → c.in-Some.warming.now ≤ 100000
 found c = let finds = c.in-Some.ensures.lookup in omega (arith, finds.1, warming_in_range (c.args.code - 101) c.in-Some.warming.now finds.3.0)
 
-pub overflow-mul-result : goal.overflow-mul-result
-overflow-mul-result c = let l = found c in search rules
+pub overflow_mul-result : goal.overflow_mul-result
+overflow_mul-result c = let l = found c in search rules
 
-pub invariant-of-result-in-Some : goal.invariant-of-result-in-Some
-invariant-of-result-in-Some c = let l = found c in search rules
+pub invariant_of-result-in-Some : goal.invariant_of-result-in-Some
+invariant_of-result-in-Some c = let l = found c in search rules

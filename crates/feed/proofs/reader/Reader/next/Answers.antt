@@ -27,8 +27,8 @@ returns-in-Err c =
     ((some, ⊎_elim (λ e. subst (λ bs. Framed bs → ⊥) rest e.1) absurd least, ⊎_elim (λ e. e.0) absurd least), record { over = refl; bytes = refl; notes = refl }) in
     record { value = told; law = λ feed before run. lawful feed (Refused refusal ∷ before) _ (called run told) }
 
-pub invariant-of-self : goal.invariant-of-self
-invariant-of-self c =
+pub invariant_of-self : goal.invariant_of-self
+invariant_of-self c =
     let self = c.args.self.now in
     let rest = take_rest self.feed.now self.start in
     let step = c.in-Ok.ensures in
@@ -37,7 +37,7 @@ invariant-of-self c =
     let least = framed.least in
     let whole = framed.whole in
     let left = length-drop self.start self.feed.now in
-    (omega (arith, self.within), omega (arith, self.few))
+    record { within = omega (arith, self.within); few = omega (arith, self.few) }
 
 pub returns : goal.returns
 returns c =

@@ -4,14 +4,14 @@ use Rattle.listing.specs.Openings.{Rows, Begins, building, none}
 use Rattle.listing.proofs.Begun.{not_both, rest_left}
 use Rattle.listing.proofs.opening.Opening.read.Goals as goal
 
-pub returns-in-default : goal.returns-in-default
-returns-in-default c =
+pub returns-in_default : goal.returns-in_default
+returns-in_default c =
     let feed = c.args.feed.now in
-    subst (Begins feed None) (sym c.new.ensures.items) (none (λ b reads. not_both (λ k. k ≡ 1) IsBuilding feed b c.in-default.field-0 reads c.in-default.ensures.value))
+    subst (Begins feed None) (sym c.new.ensures.items) (none (λ b reads. not_both (λ k. k ≡ 1) IsBuilding feed b c.in_default.field-0 reads c.in_default.ensures.value))
 
 pub returns : goal.returns
 returns c =
     let reads = c.in-Ok.ensures.value in
     let rest = rest_left c.args.feed.now c.new-reader.result c.next.result c.next.new.self c.new-reader.ensures c.next.ensures.value reads.0.0 in
-    let rows = subst (λ l. Rows l (vec_items c.in-ok-rows.rows)) c.left.ensures.bytes c.in-ok-rows.ensures in
+    let rows = subst (λ l. Rows l (vec_items c.in_ok-rows.rows)) c.left.ensures.bytes c.in_ok-rows.ensures in
     building rest.0 _ c.in-Ok.building reads rest.1 rest.2 rows

@@ -1,14 +1,14 @@
 use Rattle.listing.proofs.Runs.{no_more, another_kind, one_more, passed_over}
 use Rattle.listing.proofs.opening.read.rows.Goals as goal
 
-pub returns-then-not-is-factor-row : goal.returns-then-not-is-factor-row
-returns-then-not-is-factor-row c = another_kind _ _ _ c.loop-part.invariant c.in-Note.part c.next.new.self c.in-Note.ensures.value c.if-not-is-factor-row.ensures
+pub returns-then-not-is_factor_row : goal.returns-then-not-is_factor_row
+returns-then-not-is_factor_row c = another_kind _ _ _ c.loop-part.invariant c.in-Note.part c.next.new.self c.in-Note.ensures.value c.if-not-is_factor_row.ensures
 
 pub loop-part-preserved-in-Continue· : goal.loop-part-preserved-in-Continue·
-loop-part-preserved-in-Continue· c = one_more _ _ _ c.loop-part.invariant c.in-Note.part c.next.new.self c.in-Note.ensures.value c.in-Ok.row _ c.in-Ok.ensures.value c.in-ok-push.ensures.items
+loop-part-preserved-in-Continue· c = one_more _ _ _ c.loop-part.invariant c.in-Note.part c.next.new.self c.in-Note.ensures.value c.in-Ok.row _ c.in-Ok.ensures.value c.in_ok-push.ensures.items
 
 pub loop-part-preserved : goal.loop-part-preserved
-loop-part-preserved c = passed_over _ _ _ c.loop-part.invariant c.in-Note.part c.next.new.self c.in-Note.ensures.value c.in-default-read.field-0 c.if-not-is-factor-row.ensures c.in-default-read.ensures.value
+loop-part-preserved c = passed_over _ _ _ c.loop-part.invariant c.in-Note.part c.next.new.self c.in-Note.ensures.value c.in_default-read.field-0 c.if-not-is_factor_row.ensures c.in_default-read.ensures.value
 
 pub returns : goal.returns
-returns c = no_more _ _ _ c.loop-part.invariant c.next.result c.next.new.self c.in-default.not-Note c.next.ensures.value
+returns c = no_more _ _ _ c.loop-part.invariant c.next.result c.next.new.self c.in_default.not-Note c.next.ensures.value
