@@ -43,7 +43,7 @@ returns-then-not-unit_fits g c =
     record { value = (least, λ n. absurd (omega arith)); near = tt }
 
 pub grams-requires : goal.grams-requires
-grams-requires g c t =
+grams-requires g c =
     let terms = c.in-Some-terms.ensures in
     let thousandths = c.in-Some-thousandths.ensures.value in
     record {
@@ -65,7 +65,7 @@ pub invariant_of-result : goal.invariant_of-result
 invariant_of-result g c =
     let terms = c.in-Some-terms.ensures in
     let grams = c.in-Some-grams.ensures in
-    (grams_range _ c.in-Some-terms.terms.divisor _ grams.0 (subst (λ d. 0 < d) (sym terms.2) (divisor_range _ _ terms.0).0) grams.1, tt)
+    record { grams_within = grams_range _ c.in-Some-terms.terms.divisor _ grams.0 (subst (λ d. 0 < d) (sym terms.2) (divisor_range _ _ terms.0).0) grams.1 }
 
 pub returns : goal.returns
 returns g c =

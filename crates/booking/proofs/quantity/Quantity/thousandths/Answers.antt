@@ -25,7 +25,7 @@ returns-then-is_nan c =
     }
 
 pub exact_thousandths-requires : goal.exact_thousandths-requires
-exact_thousandths-requires c t = in_range c.in-Measured.x (sym c.if-is_nan.ensures.value) c.if-x.false c.if-x-2.false
+exact_thousandths-requires c = in_range c.in-Measured.x (sym c.if-is_nan.ensures.value) c.if-x.false c.if-x-2.false
 
 divides_all : (q : Quantity) → Divides (exact_thousandths q)
 divides_all (Counted n) = omega arith
@@ -35,12 +35,12 @@ divides_all (Measured x) = divides x
 told : (q : Quantity) (t : ℕ) → pos t ≡ nearest (exact_thousandths q) → (t ≡ booked_thousandths q) × WithinHalf (pos t) (exact_thousandths q)
 told q t is = (ap nat_abs is, subst (λ r. WithinHalf r (exact_thousandths q)) (sym is) (is_nearest (exact_thousandths q) (divides_all q)).near)
 
-pub returns-else-n-gt-MOST-COUNTED : goal.returns-else-n-gt-MOST-COUNTED
-returns-else-n-gt-MOST-COUNTED c =
+pub returns-else-n-gt-MOST_COUNTED : goal.returns-else-n-gt-MOST_COUNTED
+returns-else-n-gt-MOST_COUNTED c =
     let n = c.in-Counted.n in
     let one : pos n *ℤ pos 1 ≡ pos n = omega (arith, ints) in
     let h = told (Counted n) n (sym (stays (pos n) 1 (omega arith)) ∙ ap (λ m. nearest (over m 1)) one) in
-    rw c.in-Counted.is (record { value = (c.if-n-gt-MOST-COUNTED.false, h.0); near = h.1 })
+    rw c.in-Counted.is (record { value = (c.if-n-gt-MOST_COUNTED.false, h.0); near = h.1 })
 
 pub returns-else-x-2 : goal.returns-else-x-2
 returns-else-x-2 c =
