@@ -5,7 +5,7 @@ use Rattle.listing.specs.Lines.{Line, Said}
 use Rattle.listing.specs.Openings.{account_of}
 use Rattle.listing.proofs.Only.{line_only}
 use Rattle.listing.proofs.lines.line.Goals as goal
-use Rattle.listing.proofs.lines.line.Goals.{in-Ok+in_ok-said, in-Err+in_ok-said-2}
+use Rattle.listing.proofs.lines.line.Goals.{in-Ok+in_ok-said-in-Ok, in-Err+in_ok-said-in-Err}
 
 pub returns : goal.returns
 returns c =
@@ -13,7 +13,7 @@ returns c =
     let bytes = part.bytes.now in
     let account = account_of c.args.opening.now in
     let tells : Said account bytes c.read.result (string_bytes c.match-read.said) =
-    elim c.match-read.branch [ in-Ok+in_ok-said w ↦ rw (w.in-Ok.is, w.said_is) (w.in_ok-said.ensures (first_note bytes) w.in-Ok.ensures.value.1) | in-Err+in_ok-said-2 w ↦ rw (w.in-Err.is, w.said_is) w.in_ok-said-2.ensures ] in
+    elim c.match-read.branch [ in-Ok+in_ok-said-in-Ok w ↦ rw (w.in-Ok.is, w.said-is) (w.in_ok-said-in-Ok.ensures (first_note bytes) w.in-Ok.ensures.value.1) | in-Err+in_ok-said-in-Err w ↦ rw (w.in-Err.is, w.said-is) w.in_ok-said-in-Err.ensures ] in
     let value =
     IfOk-weaker c.format.result _ (λ s. Line account part.place part.start bytes (string_bytes s))
     (λ s e. record { answer = c.read.result; read = c.read.ensures.value; said = string_bytes c.match-read.said; tells = tells; text = e })
