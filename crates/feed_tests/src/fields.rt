@@ -32,7 +32,7 @@ fn put(note: &mut [u8], at: u8, width: u8, value: u32) {
 }
 
 #[test]
-fn a_building() -> Result<(), Fail> {
+fn a_building(rt: HostRuntime) {
     // offset and width of a field, its value, and the refusal
     let cases: [(u8, u8, u32, u8); 29] = [
         (4, 4, 0, 4),
@@ -68,13 +68,12 @@ fn a_building() -> Result<(), Fail> {
     for (at, width, value, expected) in cases {
         let mut note = BUILDING;
         put(&mut note, at, width, value);
-        check_eq(outcome(Building::read(&note)), expected).note(value)?;
+        assert_eq!(rt; outcome(Building::read(&note)), expected, "{value}");
     }
-    Ok(())
 }
 
 #[test]
-fn a_factor_row() -> Result<(), Fail> {
+fn a_factor_row(rt: HostRuntime) {
     let cases: [(u8, u8, u32, u8); 12] = [
         (4, 4, 0, 0),
         (4, 4, 0xFFFF_FFFF, 0),
@@ -92,9 +91,8 @@ fn a_factor_row() -> Result<(), Fail> {
     for (at, width, value, expected) in cases {
         let mut note = FACTOR;
         put(&mut note, at, width, value);
-        check_eq(outcome(FactorRow::read(&note)), expected).note(value)?;
+        assert_eq!(rt; outcome(FactorRow::read(&note)), expected, "{value}");
     }
-    Ok(())
 }
 
 // The smallest number is told: a wrong kind before a wrong length, and that before a field out of range.
@@ -114,7 +112,7 @@ fn the_smallest_number(rt: HostRuntime) {
 
 // Notes of every kind that are too long or too short, and of kinds that there are not; trailing bytes do not make up for it.
 #[test]
-fn every_kind() -> Result<(), Fail> {
+fn every_kind(rt: HostRuntime) {
     // kind, length, and the refusal
     let cases: [(u8, u8, u8); 15] = [
         (0, 18, 2),
@@ -137,9 +135,8 @@ fn every_kind() -> Result<(), Fail> {
         let mut bytes = [0u8; 40];
         bytes[0] = length;
         bytes[2] = kind;
-        check_eq(outcome(Note::read(&bytes)), expected).note(kind)?;
+        assert_eq!(rt; outcome(Note::read(&bytes)), expected, "{kind}");
     }
-    Ok(())
 }
 
 // What comes after the first note plays no part.
@@ -167,7 +164,7 @@ fn trailing_bytes(rt: HostRuntime) -> Result<(), Fail> {
 
 // A row of a caller's list may be out of range, and then gives no factor.
 #[test]
-fn a_plain_row() -> Result<(), Fail> {
+fn a_plain_row(rt: HostRuntime) {
     let cases: [(u32, u16, bool); 4] = [
         (1_000_000_000, 7, true),
         (1_000_000_001, 7, false),
@@ -180,7 +177,6 @@ fn a_plain_row() -> Result<(), Fail> {
             amount,
             unit,
         };
-        check_eq(row.factor().is_some(), good).note(amount)?;
+        assert_eq!(rt; row.factor().is_some(), good, "{amount}");
     }
-    Ok(())
 }

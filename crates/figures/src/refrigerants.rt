@@ -40,12 +40,7 @@ fn told(code: u32) -> Option<(u64, &'static str)> {
 fn every_refrigerant(rt: HostRuntime) {
     let mut code: u32 = 101;
     for (name, warming) in PRINTED {
-        assert_eq!(rt;
-            told(code),
-            Some((warming * 10_000, "kilogram")),
-            "{}",
-            name
-        );
+        assert_eq!(rt; told(code), Some((warming * 10_000, "kilogram")), "{name}");
         code = code.saturating_add(1);
     }
 }
@@ -59,6 +54,6 @@ fn grid_electricity(rt: HostRuntime) {
 #[test]
 fn no_other_code(rt: HostRuntime) {
     for code in [0, 2, 100, 116, 1_000_101, u32::MAX] {
-        assert_eq!(rt; told(code).is_none(), true, "{}", code);
+        assert_eq!(rt; told(code).is_none(), true, "{code}");
     }
 }
