@@ -1,5 +1,6 @@
 pub mod Booked
 pub mod Entries
+pub mod Lines
 pub mod Quantities
 pub mod Reckonings
 pub mod Rows

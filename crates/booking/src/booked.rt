@@ -22,23 +22,15 @@ pub fn book<S: FactorSource>(
     ensures near { IfOk result (λ line. WithinHalf (pos line.grams) (exact_grams building.now.life (S.FactorSource.known source.now) entry.now)) }
 {
     let head = entry.head;
-    let Some(row) = Row::from_number(head.row) else {
-        return Err(Refusal::UnknownRow);
-    };
+    let row = Row::try_from(head.row)?;
     let reckoning = row.rule().reckoning;
-    let Some(terms) = reckoning.terms(building.life, head.span) else {
-        return Err(Refusal::UnfitSpan);
-    };
-    let Some(thousandths) = entry.quantity.thousandths() else {
-        return Err(Refusal::UnfitQuantity);
-    };
+    let terms = reckoning.terms(building.life, head.span)?;
+    let thousandths = entry.quantity.thousandths()?;
     let factor = ask(source, head.code)?;
     if !reckoning.unit_fits(factor.unit) {
         return Err(Refusal::UnfitUnit);
     }
-    let Some(grams) = grams(thousandths, factor.amount, terms) else {
-        return Err(Refusal::TooLarge);
-    };
+    let grams = grams(thousandths, factor.amount, terms)?;
     Ok(Line {
         row,
         span: head.span,
@@ -52,11 +44,8 @@ pub fn book<S: FactorSource>(
 fn ask<S: FactorSource>(source: &S, code: u32) -> Result<Factor, Lacking>
     ensures { Told (S.FactorSource.known source.now code) code result }
 {
-    match source.factor(code) {
-        Ok(factor) => Ok(factor),
-        Err(lack) => Err(Lacking {
-            asked: code,
-            lacking: lack.code,
-        }),
-    }
+    source.factor(code).map_err(|lack| Lacking {
+        asked: code,
+        lacking: lack.code,
+    })
 }

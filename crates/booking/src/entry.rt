@@ -1,35 +1,28 @@
 // An entry as it is booked: what it says of itself, and its quantity.
 ghost use Rattle.std.specs.Prelude.{◌≡◌};
-ghost use Rattle.booking.specs.Entries.{of_counted, of_measured};
+ghost use Rattle.booking.specs.Entries.{booked_entry};
 
 use crate::quantity::Quantity;
-use feed::entry::{CountedEntry, EntryHead, MeasuredEntry};
+use feed::entry::{EntryHead, SentEntry, SentQuantity};
 use std::num::f64_from_bits_with_nan;
 
-#[derive(Clone, Copy)]
+#[derive(Clone, Copy, Debug, PartialEq)]
 pub struct Entry {
     pub head: EntryHead,
     pub quantity: Quantity,
 }
 
-impl From<CountedEntry> for Entry {
-    ghost from_gives = { λ e r. r ≡ of_counted e };
+impl From<SentEntry> for Entry {
+    ghost from_gives = { λ e r. r ≡ booked_entry e };
 
-    fn from(e: CountedEntry) -> Entry {
+    fn from(e: SentEntry) -> Entry {
+        let quantity = match e.quantity {
+            SentQuantity::Counted(thousandths) => Quantity::Counted(thousandths),
+            SentQuantity::Measured(bits) => Quantity::Measured(f64_from_bits_with_nan(bits)),
+        };
         Entry {
             head: e.head,
-            quantity: Quantity::Counted(e.quantity),
-        }
-    }
-}
-
-impl From<MeasuredEntry> for Entry {
-    ghost from_gives = { λ e r. r ≡ of_measured e };
-
-    fn from(e: MeasuredEntry) -> Entry {
-        Entry {
-            head: e.head,
-            quantity: Quantity::Measured(f64_from_bits_with_nan(e.bits)),
+            quantity,
         }
     }
 }

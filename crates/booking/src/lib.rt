@@ -10,6 +10,7 @@ mod reckoning;
 mod row;
 mod rules;
 mod weight;
+mod words;
 
 pub use booked::book;
 pub use entry::Entry;

@@ -6,7 +6,7 @@ ghost use Rattle.booking.specs.Weights.{GramsRange, signed_grams};
 use crate::row::Row;
 
 // What an entry comes to. Every line that exists keeps its range.
-#[derive(Clone, Copy)]
+#[derive(Clone, Copy, Debug, PartialEq, Eq)]
 pub struct Line {
     pub row: Row,
     pub span: u16,

@@ -1,15 +1,18 @@
 // How rows reckon: what they ask of a span and of a unit, and what an entry is multiplied and divided by.
-ghost use Rattle.std.specs.Prelude.{◌≡◌, MatchOption};
+ghost use Rattle.std.specs.Prelude.{◌≡◌};
 ghost use Rattle.codes.specs.Codes.{unit_number};
 ghost use Rattle.booking.specs.Reckonings.{SpanFits, multiplier, divisor, unit_fits};
+ghost use Rattle.refusals.specs.declared.refusal.Refusal.TheVariants.{UnfitSpan};
+ghost use Rattle.refusals.specs.Refusals.{Judged};
 
 use codes::FactorUnit;
+use refusals::Refusal;
 
 const FARTHEST: u16 = 10_000;
 
 const MOST_YEARS: u16 = 100;
 
-#[derive(Clone, Copy)]
+#[derive(Clone, Copy, Debug, PartialEq, Eq)]
 pub enum Reckoning {
     // What comes once. It has no span.
     Once,
@@ -24,16 +27,16 @@ pub enum Reckoning {
 }
 
 // An entry counts `multiplier` times, and is divided by `divisor`.
-#[derive(Clone, Copy)]
+#[derive(Clone, Copy, Debug, PartialEq, Eq)]
 pub struct Terms {
     pub multiplier: u16,
     pub divisor: u16,
 }
 
 impl Reckoning {
-    // How an entry with this span counts in a building of these years; none where the span does not fit.
-    pub fn terms(self, years: u16, span: u16) -> Option<Terms>
-        ensures { MatchOption result (SpanFits self span → ⊥) (λ t. SpanFits self span × (t.multiplier ≡ multiplier self years span) × (t.divisor ≡ divisor self span)) }
+    // How an entry with this span counts in a building of these years, if the span fits.
+    pub fn terms(self, years: u16, span: u16) -> Result<Terms, Refusal>
+        ensures { Judged (SpanFits self span) UnfitSpan (λ t. (t.multiplier ≡ multiplier self years span) × (t.divisor ≡ divisor self span)) result }
     {
         let (multiplier, divisor) = match self {
             Reckoning::Once if span == 0 => (1, 1),
@@ -41,9 +44,9 @@ impl Reckoning {
             Reckoning::Yearly if span == 0 => (years, 1),
             Reckoning::Renewed if span >= 1 && span <= MOST_YEARS => (years / span, 1),
             Reckoning::Refilled if span >= 1 && span <= MOST_YEARS => (years, span),
-            _ => return None,
+            _ => return Err(Refusal::UnfitSpan),
         };
-        Some(Terms {
+        Ok(Terms {
             multiplier,
             divisor,
         })

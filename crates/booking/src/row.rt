@@ -1,8 +1,12 @@
 // The rows of a sheet: what an entry can be for.
-ghost use Rattle.std.specs.Prelude.{◌≡◌, MatchOption};
+ghost use Rattle.std.specs.Prelude.{◌≡◌};
 ghost use Rattle.booking.specs.Rows.{RowRange, row_number};
+ghost use Rattle.refusals.specs.declared.refusal.Refusal.TheVariants.{UnknownRow};
+ghost use Rattle.refusals.specs.Refusals.{Judged};
 
-#[derive(Clone, Copy)]
+use refusals::Refusal;
+
+#[derive(Clone, Copy, Debug, PartialEq, Eq)]
 pub enum Row {
     Production = 1,
     Haulage = 2,
@@ -54,40 +58,46 @@ impl Row {
         Row::Refrigerant,
         Row::Demolition,
     ];
+}
 
-    pub fn from_number(n: u16) -> Option<Row>
-        ensures { MatchOption result (RowRange n → ⊥) (λ row. RowRange n × (row_number row ≡ n)) }
-    {
+impl TryFrom<u16> for Row {
+    type Error = Refusal;
+
+    ghost try_from_gives = { λ n r. Judged (RowRange n) UnknownRow (λ row. row_number row ≡ n) r };
+
+    fn try_from(n: u16) -> Result<Row, Refusal> {
         match n {
-            1 => Some(Row::Production),
-            2 => Some(Row::Haulage),
-            3 => Some(Row::MachineEnergy),
-            4 => Some(Row::MachineWater),
-            5 => Some(Row::OfficeEnergy),
-            6 => Some(Row::OfficeWater),
-            7 => Some(Row::TemporaryMaterial),
-            8 => Some(Row::RubbishHaulage),
-            9 => Some(Row::SiteRenewables),
-            10 => Some(Row::SiteGases),
-            11 => Some(Row::EquipmentEnergyBurnt),
-            12 => Some(Row::EquipmentEnergyBought),
-            13 => Some(Row::Water),
-            14 => Some(Row::UserEnergyBurnt),
-            15 => Some(Row::UserEnergyBought),
-            16 => Some(Row::Upkeep),
-            17 => Some(Row::Renewal),
-            18 => Some(Row::Refurbishment),
-            19 => Some(Row::Renewables),
-            20 => Some(Row::Sink),
-            21 => Some(Row::Refrigerant),
-            22 => Some(Row::Demolition),
-            _ => None,
+            1 => Ok(Row::Production),
+            2 => Ok(Row::Haulage),
+            3 => Ok(Row::MachineEnergy),
+            4 => Ok(Row::MachineWater),
+            5 => Ok(Row::OfficeEnergy),
+            6 => Ok(Row::OfficeWater),
+            7 => Ok(Row::TemporaryMaterial),
+            8 => Ok(Row::RubbishHaulage),
+            9 => Ok(Row::SiteRenewables),
+            10 => Ok(Row::SiteGases),
+            11 => Ok(Row::EquipmentEnergyBurnt),
+            12 => Ok(Row::EquipmentEnergyBought),
+            13 => Ok(Row::Water),
+            14 => Ok(Row::UserEnergyBurnt),
+            15 => Ok(Row::UserEnergyBought),
+            16 => Ok(Row::Upkeep),
+            17 => Ok(Row::Renewal),
+            18 => Ok(Row::Refurbishment),
+            19 => Ok(Row::Renewables),
+            20 => Ok(Row::Sink),
+            21 => Ok(Row::Refrigerant),
+            22 => Ok(Row::Demolition),
+            _ => Err(Refusal::UnknownRow),
         }
     }
+}
 
-    pub fn number(self) -> u16
-        ensures { result ≡ row_number self }
-    {
-        self as u16
+impl From<Row> for u16 {
+    ghost from_gives = { λ row n. n ≡ row_number row };
+
+    fn from(row: Row) -> u16 {
+        row as u16
     }
 }

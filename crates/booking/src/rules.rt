@@ -6,7 +6,7 @@ use crate::reckoning::Reckoning;
 use crate::row::Row;
 
 // The parts of a building's life: what is made and brought (A), built (B), used (C) and taken down (D).
-#[derive(Clone, Copy)]
+#[derive(Clone, Copy, Debug, PartialEq, Eq)]
 pub enum Stage {
     A = 1,
     B = 2,
@@ -14,7 +14,7 @@ pub enum Stage {
     D = 4,
 }
 
-#[derive(Clone, Copy)]
+#[derive(Clone, Copy, Debug, PartialEq, Eq)]
 pub struct Rule {
     pub stage: Stage,
     pub subtracted: bool,

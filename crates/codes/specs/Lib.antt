@@ -1,2 +1,3 @@
 pub mod Codes
 pub mod Ranges
+pub mod Words

@@ -1,9 +1,15 @@
 // The kinds of notes.
-ghost use Rattle.std.specs.Prelude.{◌≡◌, MatchOption};
+ghost use Rattle.std.specs.Prelude.{◌≡◌, Some};
 ghost use Rattle.codes.specs.Codes.{kind_number, note_length};
 ghost use Rattle.codes.specs.Ranges.{KindRange};
+ghost use Rattle.codes.specs.Words.{kind_word};
+ghost use Rattle.refusals.specs.declared.refusal.Refusal.TheVariants.{UnwantedKind};
+ghost use Rattle.refusals.specs.Refusals.{Judged};
 
-#[derive(Clone, Copy)]
+use refusals::Refusal;
+use std::fmt;
+
+#[derive(Clone, Copy, Debug, PartialEq, Eq)]
 pub enum Kind {
     Building = 1,
     Factor = 2,
@@ -13,25 +19,6 @@ pub enum Kind {
 }
 
 impl Kind {
-    pub fn from_number(n: u16) -> Option<Kind>
-        ensures { MatchOption result (KindRange n → ⊥) (λ kind. kind_number kind ≡ n) }
-    {
-        match n {
-            1 => Some(Kind::Building),
-            2 => Some(Kind::Factor),
-            3 => Some(Kind::Counted),
-            4 => Some(Kind::Measured),
-            5 => Some(Kind::Withdrawal),
-            _ => None,
-        }
-    }
-
-    pub fn number(self) -> u16
-        ensures { result ≡ kind_number self }
-    {
-        self as u16
-    }
-
     // How many bytes a note of this kind has.
     pub fn length(self) -> usize
         ensures { result ≡ note_length (kind_number self) }
@@ -42,5 +29,44 @@ impl Kind {
             Kind::Counted | Kind::Measured => 28,
             Kind::Withdrawal => 12,
         }
+    }
+}
+
+impl TryFrom<u16> for Kind {
+    type Error = Refusal;
+
+    ghost try_from_gives = { λ n r. Judged (KindRange n) UnwantedKind (λ kind. kind_number kind ≡ n) r };
+
+    fn try_from(n: u16) -> Result<Kind, Refusal> {
+        match n {
+            1 => Ok(Kind::Building),
+            2 => Ok(Kind::Factor),
+            3 => Ok(Kind::Counted),
+            4 => Ok(Kind::Measured),
+            5 => Ok(Kind::Withdrawal),
+            _ => Err(Refusal::UnwantedKind),
+        }
+    }
+}
+
+impl From<Kind> for u16 {
+    ghost from_gives = { λ kind n. n ≡ kind_number kind };
+
+    fn from(kind: Kind) -> u16 {
+        kind as u16
+    }
+}
+
+impl fmt::Display for Kind {
+    ghost output = { λ kind. Some (kind_word (kind_number kind)) };
+
+    fn fmt<W: fmt::Write>(&self, f: &mut fmt::Formatter<W>) -> fmt::Result {
+        f.write_str(match self {
+            Kind::Building => "building",
+            Kind::Factor => "factor",
+            Kind::Counted => "entry",
+            Kind::Measured => "measured",
+            Kind::Withdrawal => "withdrawal",
+        })
     }
 }

@@ -1,10 +1,14 @@
 // The climates, by their numbers in a feed.
-ghost use Rattle.std.specs.Prelude.{◌≡◌, MatchOption};
+ghost use Rattle.std.specs.Prelude.{◌≡◌};
 ghost use Rattle.codes.specs.Codes.{region_number};
 ghost use Rattle.codes.specs.Ranges.{RegionRange};
+ghost use Rattle.refusals.specs.declared.refusal.Refusal.TheVariants.{OutOfRange};
+ghost use Rattle.refusals.specs.Refusals.{Judged};
+
+use refusals::Refusal;
 
 // The climate that a building stands in.
-#[derive(Clone, Copy)]
+#[derive(Clone, Copy, Debug, PartialEq, Eq)]
 pub enum Region {
     SevereCold = 1,
     Cold = 2,
@@ -13,23 +17,27 @@ pub enum Region {
     Mild = 5,
 }
 
-impl Region {
-    pub fn from_number(n: u16) -> Option<Region>
-        ensures { MatchOption result (RegionRange n → ⊥) (λ region. region_number region ≡ n) }
-    {
+impl TryFrom<u16> for Region {
+    type Error = Refusal;
+
+    ghost try_from_gives = { λ n r. Judged (RegionRange n) OutOfRange (λ region. region_number region ≡ n) r };
+
+    fn try_from(n: u16) -> Result<Region, Refusal> {
         match n {
-            1 => Some(Region::SevereCold),
-            2 => Some(Region::Cold),
-            3 => Some(Region::HotSummerColdWinter),
-            4 => Some(Region::HotSummerWarmWinter),
-            5 => Some(Region::Mild),
-            _ => None,
+            1 => Ok(Region::SevereCold),
+            2 => Ok(Region::Cold),
+            3 => Ok(Region::HotSummerColdWinter),
+            4 => Ok(Region::HotSummerWarmWinter),
+            5 => Ok(Region::Mild),
+            _ => Err(Refusal::OutOfRange),
         }
     }
+}
 
-    pub fn number(self) -> u16
-        ensures { result ≡ region_number self }
-    {
-        self as u16
+impl From<Region> for u16 {
+    ghost from_gives = { λ region n. n ≡ region_number region };
+
+    fn from(region: Region) -> u16 {
+        region as u16
     }
 }

@@ -1,10 +1,14 @@
 // What buildings are for, by the numbers in a feed.
-ghost use Rattle.std.specs.Prelude.{◌≡◌, MatchOption};
+ghost use Rattle.std.specs.Prelude.{◌≡◌};
 ghost use Rattle.codes.specs.Codes.{type_number};
 ghost use Rattle.codes.specs.Ranges.{TypeRange};
+ghost use Rattle.refusals.specs.declared.refusal.Refusal.TheVariants.{OutOfRange};
+ghost use Rattle.refusals.specs.Refusals.{Judged};
+
+use refusals::Refusal;
 
 // What a building is for.
-#[derive(Clone, Copy)]
+#[derive(Clone, Copy, Debug, PartialEq, Eq)]
 pub enum BuildingType {
     Residential = 1,
     SmallOffice = 2,
@@ -16,26 +20,30 @@ pub enum BuildingType {
     School = 8,
 }
 
-impl BuildingType {
-    pub fn from_number(n: u16) -> Option<BuildingType>
-        ensures { MatchOption result (TypeRange n → ⊥) (λ type. type_number type ≡ n) }
-    {
+impl TryFrom<u16> for BuildingType {
+    type Error = Refusal;
+
+    ghost try_from_gives = { λ n r. Judged (TypeRange n) OutOfRange (λ building_type. type_number building_type ≡ n) r };
+
+    fn try_from(n: u16) -> Result<BuildingType, Refusal> {
         match n {
-            1 => Some(BuildingType::Residential),
-            2 => Some(BuildingType::SmallOffice),
-            3 => Some(BuildingType::LargeOffice),
-            4 => Some(BuildingType::SmallHotel),
-            5 => Some(BuildingType::LargeHotel),
-            6 => Some(BuildingType::Shop),
-            7 => Some(BuildingType::Hospital),
-            8 => Some(BuildingType::School),
-            _ => None,
+            1 => Ok(BuildingType::Residential),
+            2 => Ok(BuildingType::SmallOffice),
+            3 => Ok(BuildingType::LargeOffice),
+            4 => Ok(BuildingType::SmallHotel),
+            5 => Ok(BuildingType::LargeHotel),
+            6 => Ok(BuildingType::Shop),
+            7 => Ok(BuildingType::Hospital),
+            8 => Ok(BuildingType::School),
+            _ => Err(Refusal::OutOfRange),
         }
     }
+}
 
-    pub fn number(self) -> u16
-        ensures { result ≡ type_number self }
-    {
-        self as u16
+impl From<BuildingType> for u16 {
+    ghost from_gives = { λ building_type n. n ≡ type_number building_type };
+
+    fn from(building_type: BuildingType) -> u16 {
+        building_type as u16
     }
 }

@@ -1,10 +1,14 @@
 // What factors are per, by the numbers in a feed.
-ghost use Rattle.std.specs.Prelude.{◌≡◌, MatchOption};
+ghost use Rattle.std.specs.Prelude.{◌≡◌};
 ghost use Rattle.codes.specs.Codes.{unit_number};
 ghost use Rattle.codes.specs.Ranges.{UnitRange};
+ghost use Rattle.refusals.specs.declared.refusal.Refusal.TheVariants.{OutOfRange};
+ghost use Rattle.refusals.specs.Refusals.{Judged};
+
+use refusals::Refusal;
 
 // What a factor's amount is per.
-#[derive(Clone, Copy)]
+#[derive(Clone, Copy, Debug, PartialEq, Eq)]
 pub enum FactorUnit {
     Tonne = 1,
     CubicMetre = 2,
@@ -15,19 +19,21 @@ pub enum FactorUnit {
     SquareMetre = 7,
 }
 
-impl FactorUnit {
-    pub fn from_number(n: u16) -> Option<FactorUnit>
-        ensures { MatchOption result (UnitRange n → ⊥) (λ unit. unit_number unit ≡ n) }
-    {
+impl TryFrom<u16> for FactorUnit {
+    type Error = Refusal;
+
+    ghost try_from_gives = { λ n r. Judged (UnitRange n) OutOfRange (λ unit. unit_number unit ≡ n) r };
+
+    fn try_from(n: u16) -> Result<FactorUnit, Refusal> {
         match n {
-            1 => Some(FactorUnit::Tonne),
-            2 => Some(FactorUnit::CubicMetre),
-            3 => Some(FactorUnit::KilowattHour),
-            4 => Some(FactorUnit::Kilogram),
-            5 => Some(FactorUnit::TonneKilometre),
-            6 => Some(FactorUnit::Piece),
-            7 => Some(FactorUnit::SquareMetre),
-            _ => None,
+            1 => Ok(FactorUnit::Tonne),
+            2 => Ok(FactorUnit::CubicMetre),
+            3 => Ok(FactorUnit::KilowattHour),
+            4 => Ok(FactorUnit::Kilogram),
+            5 => Ok(FactorUnit::TonneKilometre),
+            6 => Ok(FactorUnit::Piece),
+            7 => Ok(FactorUnit::SquareMetre),
+            _ => Err(Refusal::OutOfRange),
         }
     }
 }

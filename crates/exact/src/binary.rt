@@ -5,7 +5,7 @@ ghost use Rattle.exact.specs.Rounding.{nearest, over};
 use crate::rounding;
 
 // The numerator divided by 2 to the power of the shift.
-#[derive(Clone, Copy)]
+#[derive(Clone, Copy, Debug)]
 pub struct Binary {
     pub numerator: u64,
     pub shift: u32,

@@ -4,7 +4,7 @@ ghost use Rattle.exact.specs.Rounding.{nearest, over, Rounding};
 
 use crate::rounding;
 
-#[derive(Clone, Copy)]
+#[derive(Clone, Copy, Debug)]
 pub struct Ratio {
     pub numerator: i64,
     pub divisor: u32,

@@ -6,7 +6,7 @@ use crate::source::FactorSource;
 use crate::table::BuiltIn;
 use feed::factor::Factor;
 
-#[derive(Clone, Copy, Drop)]
+#[derive(Clone, Copy, Debug, Drop, PartialEq, Eq)]
 pub struct Defaults<S> {
     pub below: S,
 }
@@ -16,12 +16,8 @@ impl<S: FactorSource> FactorSource for Defaults<S> {
 
     // Where both lack the code, it is the source below that says what is lacking.
     fn factor(&self, code: u32) -> Result<Factor, Lack> {
-        match self.below.factor(code) {
-            Ok(factor) => Ok(factor),
-            Err(lack) => match BuiltIn.factor(code) {
-                Ok(factor) => Ok(factor),
-                Err(_) => Err(lack),
-            },
-        }
+        self.below
+            .factor(code)
+            .or_else(|lack| BuiltIn.factor(code).map_err(|_| lack))
     }
 }

@@ -6,7 +6,7 @@ use crate::source::FactorSource;
 use feed::factor::{Factor, FactorRow};
 
 // Rows in the caller's memory. The first that is in range and has the code answers.
-#[derive(Clone, Copy)]
+#[derive(Clone, Copy, Debug, PartialEq, Eq)]
 pub struct ProjectList<'a> {
     pub rows: &'a [FactorRow],
 }
@@ -17,7 +17,7 @@ impl<'a> FactorSource for ProjectList<'a> {
     fn factor(&self, code: u32) -> Result<Factor, Lack> {
         for row in self.rows {
             if row.code == code {
-                if let Some(factor) = row.factor() {
+                if let Ok(factor) = Factor::try_from(*row) {
                     return Ok(factor);
                 }
             }

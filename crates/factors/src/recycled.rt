@@ -14,7 +14,7 @@ const RECYCLED: u32 = 1_000_000;
 
 const LAST_RECYCLED: u32 = 1_999_999;
 
-#[derive(Clone, Copy, Drop)]
+#[derive(Clone, Copy, Debug, Drop, PartialEq, Eq)]
 pub struct Recycled<S> {
     pub below: S,
 }
@@ -27,10 +27,10 @@ impl<S: FactorSource> FactorSource for Recycled<S> {
             return self.below.factor(code);
         }
         let new = self.below.factor(code - RECYCLED)?;
-        match new.unit {
-            FactorUnit::Tonne => Ok(halved(new)),
-            _ => Err(Lack { code }),
+        if new.unit != FactorUnit::Tonne {
+            return Err(Lack { code });
         }
+        Ok(halved(new))
     }
 }
 

@@ -35,7 +35,7 @@ const WARMING_POTENTIALS: [u32; 15] = [
     1_640, // R-43-10mee
 ];
 
-#[derive(Clone, Copy)]
+#[derive(Clone, Copy, Debug, PartialEq, Eq)]
 pub struct BuiltIn;
 
 impl FactorSource for BuiltIn {
@@ -51,12 +51,12 @@ impl FactorSource for BuiltIn {
         if code < FIRST_REFRIGERANT {
             return Err(Lack { code });
         }
-        match WARMING_POTENTIALS.get((code - FIRST_REFRIGERANT) as usize) {
-            Some(warming) => Ok(Factor {
-                amount: *warming * KILOGRAM,
-                unit: FactorUnit::Kilogram,
-            }),
-            None => Err(Lack { code }),
-        }
+        let Some(warming) = WARMING_POTENTIALS.get((code - FIRST_REFRIGERANT) as usize) else {
+            return Err(Lack { code });
+        };
+        Ok(Factor {
+            amount: *warming * KILOGRAM,
+            unit: FactorUnit::Kilogram,
+        })
     }
 }

@@ -1,8 +1,8 @@
 -- The fields of what is sent into a sheet: where they lie in a note. Assumes nothing.
 use Rattle.std.specs.Prelude.{ℕ, List}
-use Rattle.feed.specs.declared.entry.CountedEntry.{CountedEntry}
 use Rattle.feed.specs.declared.entry.EntryHead.{EntryHead}
-use Rattle.feed.specs.declared.entry.MeasuredEntry.{MeasuredEntry}
+use Rattle.feed.specs.declared.entry.SentEntry.{SentEntry}
+use Rattle.feed.specs.declared.entry.SentQuantity.TheVariants.{Counted, Measured}
 use Rattle.feed.specs.declared.entry.Withdrawal.{Withdrawal}
 use Rattle.feed.specs.Fields.{field}
 
@@ -15,11 +15,12 @@ entry_head note = record {
   code = field note 16 4;
 }
 
-abbrev pub counted : List ℕ → CountedEntry
-counted note = record { head = entry_head note; quantity = field note 20 8 }
+-- the entry of a note whose quantity was counted, and of one whose quantity was measured
+abbrev pub counted : List ℕ → SentEntry
+counted note = record { head = entry_head note; quantity = Counted (field note 20 8) }
 
-abbrev pub measured : List ℕ → MeasuredEntry
-measured note = record { head = entry_head note; bits = field note 20 8 }
+abbrev pub measured : List ℕ → SentEntry
+measured note = record { head = entry_head note; quantity = Measured (field note 20 8) }
 
 abbrev pub withdrawal : List ℕ → Withdrawal
 withdrawal note = record { number = field note 4 4; revision = field note 8 4 }

@@ -1,12 +1,15 @@
 -- A feed read from its beginning: notes end to end. Assumes nothing.
-use Rattle.std.specs.Prelude.{◌≡◌, ℕ, ◌+◌, ◌<◌, List, [], ◌∷◌, ◌++◌, length, drop}
-use Rattle.std.specs.List.{flat_map, AllByRecursion}
-use Rattle.feed.specs.declared.reader.Next.{Next}
-use Rattle.feed.specs.declared.reader.Next.TheVariants.{Note, End, Refused}
+use Rattle.std.specs.Prelude.{◌≡◌, ℕ, ◌+◌, ◌<◌, List, [], ◌∷◌, ◌++◌, length, drop, Some, None, Option, Ok, Err, Result, All}
+use Rattle.std.specs.List.{flat_map}
 use Rattle.feed.specs.declared.reader.Part.{Part}
 use Rattle.feed.specs.declared.reader.Reader.{Reader}
 use Rattle.feed.specs.Frames.{Framed, OneNote, first_note}
+use Rattle.refusals.specs.declared.refusal.Refusal.{Refusal}
 use Rattle.refusals.specs.Refusals.{refusal_number}
+
+-- what a reader answers: the next note, none where the feed has ended, or why what is left is no note
+abbrev pub Answer : Type 0
+Answer = Result (Option Part) Refusal
 
 abbrev pub text : Part → List ℕ
 text p = p.bytes.now
@@ -44,28 +47,28 @@ pub record Stays (r t : Reader) : Type 0 where
   pub notes : t.handed ≡ r.handed
 
 -- an answer that is no note is true of what is left: no byte is, or no note can be framed
-abbrev pub Spent : Next → List ℕ → Type 0
-Spent (Note p) rest = ⊥
-Spent End rest = rest ≡ []
-Spent (Refused f) rest = (0 < length rest) × (Framed rest → ⊥) × (refusal_number f ≡ 1)
+abbrev pub Spent : Answer → List ℕ → Type 0
+Spent (Ok (Some p)) rest = ⊥
+Spent (Ok None) rest = rest ≡ []
+Spent (Err f) rest = (0 < length rest) × (Framed rest → ⊥) × (refusal_number f ≡ 1)
 
 -- one call of a reader
-abbrev pub Answered : Reader → Next → Reader → Type 0
-Answered r (Note p) t = Hands r p t
-Answered r End t = Spent End (left_of r) × Stays r t
-Answered r (Refused f) t = Spent (Refused f) (left_of r) × Stays r t
+abbrev pub Answered : Reader → Answer → Reader → Type 0
+Answered r (Ok (Some p)) t = Hands r p t
+Answered r (Ok None) t = Spent (Ok None) (left_of r) × Stays r t
+Answered r (Err f) t = Spent (Err f) (left_of r) × Stays r t
 
 -- calls of one reader of the feed, from its opening on, with their answers, the latest first
-pub data Run (feed : List ℕ) : List Next → Reader → Type 0 where
+pub data Run (feed : List ℕ) : List Answer → Reader → Type 0 where
   opened : {r : Reader} → Opened feed r → Run feed [] r
-  called : {before : List Next} {r t : Reader} {a : Next} → Run feed before r → Answered r a t → Run feed (a ∷ before) t
+  called : {before : List Answer} {r t : Reader} {a : Answer} → Run feed before r → Answered r a t → Run feed (a ∷ before) t
 
 -- the notes among the answers, in the order in which they were handed out
-abbrev pub parts : List Next → List Part
+abbrev pub parts : List Answer → List Part
 parts [] = []
-parts (Note p ∷ before) = parts before ++ (p ∷ [])
-parts (End ∷ before) = parts before
-parts (Refused f ∷ before) = parts before
+parts (Ok (Some p) ∷ before) = parts before ++ (p ∷ [])
+parts (Ok None ∷ before) = parts before
+parts (Err f ∷ before) = parts before
 
 -- the places count up from k, and each part starts where the one before it ended
 abbrev pub Placed : ℕ → ℕ → List Part → Type 0
@@ -73,26 +76,26 @@ Placed k at [] = Unit {0}
 Placed k at (p ∷ ps) = (p.place ≡ k) × (p.start ≡ at) × Placed (k + 1) (at + length (text p)) ps
 
 -- P, where the answer is no note
-abbrev pub UnlessNote : Next → Type 0 → Type 0
-UnlessNote (Note p) P = Unit {0}
-UnlessNote End P = P
-UnlessNote (Refused f) P = P
+abbrev pub UnlessNote : Answer → Type 0 → Type 0
+UnlessNote (Ok (Some p)) P = Unit {0}
+UnlessNote (Ok None) P = P
+UnlessNote (Err f) P = P
 
 -- an answer that is no note is given again by every later call
-abbrev pub Again : List Next → Type 0
+abbrev pub Again : List Answer → Type 0
 Again [] = Unit {0}
 Again (a ∷ []) = Unit {0}
 Again (a ∷ b ∷ before) = UnlessNote b (a ≡ b) × Again (b ∷ before)
 
 -- the last answer, if it is no note, is true of what is left
-abbrev pub Ends : List Next → List ℕ → Type 0
+abbrev pub Ends : List Answer → List ℕ → Type 0
 Ends [] rest = Unit {0}
 Ends (a ∷ before) rest = UnlessNote a (Spent a rest)
 
 -- what holds of all answers of one reader, and of what is left of the feed after them
-pub record Lawful (feed : List ℕ) (answers : List Next) (rest : List ℕ) : Type 0 where
+pub record Lawful (feed : List ℕ) (answers : List Answer) (rest : List ℕ) : Type 0 where
   pub whole : flat_map text (parts answers) ++ rest ≡ feed
-  pub notes : AllByRecursion (λ p. OneNote (text p)) (parts answers)
+  pub notes : All (λ p. OneNote (text p)) (parts answers)
   pub places : Placed 1 0 (parts answers)
   pub again : Again answers
   pub ends : Ends answers rest

@@ -7,3 +7,4 @@ pub mod Frames
 pub mod Heads
 pub mod Notes
 pub mod Readings
+pub mod Words

@@ -6,7 +6,7 @@ use codes::{BuildingType, Region};
 mod read;
 
 // Every building that exists keeps these ranges.
-#[derive(Clone, Copy)]
+#[derive(Clone, Copy, Debug, PartialEq, Eq)]
 pub struct Building {
     // in tenths of a square metre
     pub area: u32,
@@ -25,7 +25,7 @@ pub struct Building {
 }
 
 // The numbers of a building as they came: any of them may be out of range.
-#[derive(Clone, Copy)]
+#[derive(Clone, Copy, Debug, PartialEq, Eq)]
 pub struct BuildingNumbers {
     pub area: u32,
     pub life: u16,

@@ -3,7 +3,7 @@
 mod read;
 
 // What an entry says before its quantity.
-#[derive(Clone, Copy)]
+#[derive(Clone, Copy, Debug, PartialEq, Eq)]
 pub struct EntryHead {
     pub number: u32,
     pub revision: u32,
@@ -12,22 +12,23 @@ pub struct EntryHead {
     pub code: u32,
 }
 
-// An entry whose quantity was counted, in thousandths of a unit.
-#[derive(Clone, Copy)]
-pub struct CountedEntry {
-    pub head: EntryHead,
-    pub quantity: u64,
+// How much an entry is for, as it was sent.
+#[derive(Clone, Copy, Debug, PartialEq, Eq)]
+pub enum SentQuantity {
+    // in thousandths of a unit
+    Counted(u64),
+    // the bits of a binary64 number
+    Measured(u64),
 }
 
-// An entry whose quantity was measured: the bits of a binary64 number.
-#[derive(Clone, Copy)]
-pub struct MeasuredEntry {
+#[derive(Clone, Copy, Debug, PartialEq, Eq)]
+pub struct SentEntry {
     pub head: EntryHead,
-    pub bits: u64,
+    pub quantity: SentQuantity,
 }
 
 // Takes back what was sent under a number.
-#[derive(Clone, Copy)]
+#[derive(Clone, Copy, Debug, PartialEq, Eq)]
 pub struct Withdrawal {
     pub number: u32,
     pub revision: u32,

@@ -6,7 +6,7 @@ use codes::FactorUnit;
 mod read;
 
 // Every factor that exists keeps its range.
-#[derive(Clone, Copy)]
+#[derive(Clone, Copy, Debug, PartialEq, Eq)]
 pub struct Factor {
     // in tenths of a gram of carbon dioxide equivalent
     pub amount: u32,
@@ -15,7 +15,7 @@ pub struct Factor {
 }
 
 // A row of a list of factors as it came: its amount and its unit may be out of range.
-#[derive(Clone, Copy)]
+#[derive(Clone, Copy, Debug, PartialEq, Eq)]
 pub struct FactorRow {
     pub code: u32,
     pub amount: u32,

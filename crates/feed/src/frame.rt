@@ -1,13 +1,12 @@
-// Where the first note of given bytes ends, and whether it has the form of its kind.
-ghost use Rattle.std.specs.Prelude.{◌≡◌, ◌≤◌, ◌++◌, length};
-ghost use Rattle.codes.specs.Codes.{kind_number};
+// Where the first note of given bytes ends, and what it says before its fields.
+ghost use Rattle.std.specs.Prelude.{◌≡◌, ◌≤◌, length};
 ghost use Rattle.feed.specs.Frames.{first_note, note_kind};
 ghost use Rattle.feed.specs.Heads.{IsHead};
-ghost use Rattle.feed.specs.Readings.{framing, shape};
-ghost use Rattle.refusals.specs.Refusals.{Decided};
+ghost use Rattle.feed.specs.Readings.{framing};
+ghost use Rattle.refusals.specs.declared.refusal.Refusal.TheVariants.{WrongLength};
+ghost use Rattle.refusals.specs.Refusals.{Decided, Judged};
 
-use crate::little::u16_at;
-use codes::Kind;
+use crate::little::number_at;
 use refusals::Refusal;
 
 // A note's length and its kind, two bytes each, come before its fields.
@@ -20,7 +19,7 @@ pub fn first_note(bytes: &[u8]) -> Result<&[u8], Refusal>
     if bytes.len() < HEAD_LENGTH {
         return Err(Refusal::Unframed);
     }
-    let len = usize::from(u16_at(bytes, 0));
+    let len = usize::from(number_at::<2, u16>(bytes, 0));
     if len < HEAD_LENGTH || len > bytes.len() {
         return Err(Refusal::Unframed);
     }
@@ -31,11 +30,18 @@ pub(crate) fn kind_of(note: &[u8]) -> u16
     requires { 4 ≤ length note.now }
     ensures { result ≡ note_kind note.now }
 {
-    u16_at(note, 2)
+    number_at(note, 2)
+}
+
+// The bytes of a note, where it is as long as its kind asks.
+pub(crate) fn sized<const N: usize>(note: &[u8]) -> Result<&[u8; N], Refusal>
+    ensures { Judged (length note.now ≡ N) WrongLength (λ bytes. bytes.now ≡ note.now) result }
+{
+    note.try_into().map_err(|_| Refusal::WrongLength)
 }
 
 // What a note says before its fields.
-#[derive(Clone, Copy)]
+#[derive(Clone, Copy, Debug, PartialEq, Eq)]
 pub struct Head {
     pub length: usize,
     pub kind: u16,
@@ -52,18 +58,4 @@ impl Head {
             kind: kind_of(note),
         })
     }
-}
-
-// The first note of the bytes, where it is of this kind and as long as the kind asks.
-pub(crate) fn note_of_kind(bytes: &[u8], kind: Kind) -> Result<&[u8], Refusal>
-    ensures { Decided (framing bytes.now ++ shape (λ k. k ≡ kind_number kind) (first_note bytes.now)) (λ note. note.now ≡ first_note bytes.now) result }
-{
-    let note = first_note(bytes)?;
-    if kind_of(note) != kind.number() {
-        return Err(Refusal::UnwantedKind);
-    }
-    if note.len() != kind.length() {
-        return Err(Refusal::WrongLength);
-    }
-    Ok(note)
 }

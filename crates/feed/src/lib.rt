@@ -2,9 +2,11 @@
 #![tactic(auto)]
 
 pub mod building;
+mod content;
 pub mod entry;
 pub mod factor;
 pub mod frame;
 mod little;
 pub mod note;
 pub mod reader;
+mod words;

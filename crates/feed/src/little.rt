@@ -1,33 +1,51 @@
 // The numbers in a note: fields of two, four or eight bytes, the lowest byte first.
-ghost use Rattle.std.specs.Prelude.{◌≡◌, ◌+◌, ◌≤◌, length};
-ghost use Rattle.feed.specs.Fields.{field};
+ghost use Rattle.std.specs.Prelude.{◌≡◌, ℕ, ◌+◌, ◌≤◌, length};
+ghost use Rattle.feed.specs.Fields.{little, field};
 
-pub(crate) fn u16_at(bytes: &[u8], at: usize) -> u16
-    requires { at + 2 ≤ length bytes.now }
-    ensures { result ≡ field bytes.now at 2 }
-{
-    u16::from_le_bytes([bytes[at], bytes[at + 1]])
+// An unsigned number of N bytes.
+pub(crate) trait Little<const N: usize>: Sized {
+    ghost value: { Self → ℕ };
+
+    fn from_bytes(bytes: [u8; N]) -> Self
+        ensures { value result ≡ little bytes.entry };
 }
 
-pub(crate) fn u32_at(bytes: &[u8], at: usize) -> u32
-    requires { at + 4 ≤ length bytes.now }
-    ensures { result ≡ field bytes.now at 4 }
+// The field at this offset. How wide it is follows from the number that is asked for.
+pub(crate) fn number_at<const N: usize, T: Little<N>>(note: &[u8], at: usize) -> T
+    requires { at + N ≤ length note.now }
+    ensures { T.value result ≡ field note.now at N }
 {
-    u32::from_le_bytes([bytes[at], bytes[at + 1], bytes[at + 2], bytes[at + 3]])
+    let mut bytes = [0; N];
+    bytes.copy_from_slice(&note[at..at + N]);
+    T::from_bytes(bytes)
 }
 
-pub(crate) fn u64_at(bytes: &[u8], at: usize) -> u64
-    requires { at + 8 ≤ length bytes.now }
-    ensures { result ≡ field bytes.now at 8 }
-{
-    u64::from_le_bytes([
-        bytes[at],
-        bytes[at + 1],
-        bytes[at + 2],
-        bytes[at + 3],
-        bytes[at + 4],
-        bytes[at + 5],
-        bytes[at + 6],
-        bytes[at + 7],
-    ])
+impl Little<2> for u16 {
+    ghost value = { λ n. n };
+
+    fn from_bytes(bytes: [u8; 2]) -> u16
+        ensures { result ≡ little bytes }
+    {
+        u16::from_le_bytes(bytes)
+    }
+}
+
+impl Little<4> for u32 {
+    ghost value = { λ n. n };
+
+    fn from_bytes(bytes: [u8; 4]) -> u32
+        ensures { result ≡ little bytes }
+    {
+        u32::from_le_bytes(bytes)
+    }
+}
+
+impl Little<8> for u64 {
+    ghost value = { λ n. n };
+
+    fn from_bytes(bytes: [u8; 8]) -> u64
+        ensures { result ≡ little bytes }
+    {
+        u64::from_le_bytes(bytes)
+    }
 }

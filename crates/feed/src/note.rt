@@ -1,25 +1,22 @@
 // A note of any kind.
-ghost use Rattle.std.specs.Prelude.{◌≡◌, ◌≤◌, ◌++◌, length};
-ghost use Rattle.codes.specs.Codes.{kind_number, note_length};
-ghost use Rattle.feed.specs.Frames.{Framed, first_note, note_kind};
-ghost use Rattle.feed.specs.Notes.{Says};
 ghost use Rattle.codes.specs.Ranges.{KindRange};
-ghost use Rattle.feed.specs.Readings.{Reads, shape, ranges};
-ghost use Rattle.refusals.specs.Refusals.{Decided};
+ghost use Rattle.feed.specs.Frames.{Framed, first_note};
+ghost use Rattle.feed.specs.Notes.{Says};
+ghost use Rattle.feed.specs.Readings.{Reads};
 
 use crate::building::Building;
-use crate::entry::{CountedEntry, MeasuredEntry, Withdrawal};
+use crate::content::{Content, read};
+use crate::entry::{SentEntry, SentQuantity, Withdrawal};
 use crate::factor::FactorRow;
-use crate::frame::{first_note, kind_of};
+use crate::frame::sized;
 use codes::Kind;
 use refusals::Refusal;
 
-#[derive(Clone, Copy)]
+#[derive(Clone, Copy, Debug, PartialEq, Eq)]
 pub enum Note {
     Building(Building),
     Factor(FactorRow),
-    Counted(CountedEntry),
-    Measured(MeasuredEntry),
+    Entry(SentEntry),
     Withdrawal(Withdrawal),
 }
 
@@ -29,34 +26,30 @@ impl Note {
         ensures value { Reads KindRange Says bytes.now result }
         ensures alone { Framed bytes.now → Reads KindRange Says (first_note bytes.now) result }
     {
-        Note::from_note(first_note(bytes)?)
+        read(bytes)
     }
+}
 
-    fn from_note(note: &[u8]) -> Result<Note, Refusal>
-        requires { 4 ≤ length note.now }
-        ensures { Decided (shape KindRange note.now ++ ranges note.now) (Says note.now) result }
-    {
-        let Some(kind) = Kind::from_number(kind_of(note)) else {
-            return Err(Refusal::UnwantedKind);
-        };
-        if note.len() != kind.length() {
-            return Err(Refusal::WrongLength);
-        }
-        Note::of_kind(kind, note)
-    }
+impl Content for Note {
+    ghost Wanted = { KindRange };
 
-    // A note that is as long as its kind asks.
-    fn of_kind(kind: Kind, note: &[u8]) -> Result<Note, Refusal>
-        requires kind { note_kind note.now ≡ kind_number kind }
-        requires length { length note.now ≡ note_length (kind_number kind) }
-        ensures { Decided (ranges note.now) (Says note.now) result }
-    {
+    ghost Says = { Says };
+
+    ghost known = { λ k range. range };
+
+    fn of_note(kind: Kind, note: &[u8]) -> Result<Note, Refusal> {
         match kind {
-            Kind::Building => Ok(Note::Building(Building::from_note(note)?)),
-            Kind::Factor => Ok(Note::Factor(FactorRow::from_note(note)?)),
-            Kind::Counted => Ok(Note::Counted(CountedEntry::from_note(note))),
-            Kind::Measured => Ok(Note::Measured(MeasuredEntry::from_note(note))),
-            Kind::Withdrawal => Ok(Note::Withdrawal(Withdrawal::from_note(note))),
+            Kind::Building => Building::of_note(kind, note).map(Note::Building),
+            Kind::Factor => FactorRow::of_note(kind, note).map(Note::Factor),
+            Kind::Counted => Ok(Note::Entry(SentEntry::of_form(
+                SentQuantity::Counted,
+                sized(note)?,
+            ))),
+            Kind::Measured => Ok(Note::Entry(SentEntry::of_form(
+                SentQuantity::Measured,
+                sized(note)?,
+            ))),
+            Kind::Withdrawal => Ok(Note::Withdrawal(Withdrawal::from(sized(note)?))),
         }
     }
 }

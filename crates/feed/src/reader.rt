@@ -1,26 +1,16 @@
 // The notes of a feed, one after the other.
 ghost use Rattle.std.specs.Prelude.{◌≤◌, length};
 
-use refusals::Refusal;
-
 mod calls;
 
 // A part of the feed: a note, or what is left after the last one.
-#[derive(Clone, Copy)]
+#[derive(Clone, Copy, Debug, PartialEq, Eq)]
 pub struct Part<'a> {
     // its place among the notes of the feed, from 1
     pub place: usize,
     // how many bytes of the feed come before it
     pub start: usize,
     pub bytes: &'a [u8],
-}
-
-// What a reader answers: the next note, that the feed has ended, or why what is left is no note.
-#[derive(Clone, Copy)]
-pub enum Next<'a> {
-    Note(Part<'a>),
-    End,
-    Refused(Refusal),
 }
 
 // Reads the caller's bytes where they lie. It is no `Copy`, since a copy would hand out its notes again.

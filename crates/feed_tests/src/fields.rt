@@ -1,6 +1,6 @@
 // Each refusal of a building, of a factor row and of a note, and each field at the ends of its range and one beyond.
 use feed::building::Building;
-use feed::factor::FactorRow;
+use feed::factor::{Factor, FactorRow};
 use feed::frame::Head;
 use feed::note::Note;
 use refusals::Refusal;
@@ -12,86 +12,80 @@ const BUILDING: [u8; 18] = [18, 0, 1, 0, 0x10, 0x27, 0, 0, 50, 0, 2, 0, 2, 0, 1,
 // code 7, amount 7,000,000, unit 1
 const FACTOR: [u8; 14] = [14, 0, 2, 0, 7, 0, 0, 0, 0xC0, 0xCF, 0x6A, 0, 1, 0];
 
-// The number of a refusal, or 0 for a value.
-fn outcome<T: Drop>(answer: Result<T, Refusal>) -> u8 {
-    match answer {
-        Ok(_) => 0,
-        Err(refusal) => refusal.number(),
-    }
+// The number by which reading is refused; none for a value.
+fn refused<T: Drop>(answer: Result<T, Refusal>) -> Option<u8> {
+    answer.err().map(Refusal::number)
 }
 
 // Writes the field of this many bytes at this offset.
-fn put(note: &mut [u8], at: u8, width: u8, value: u32) {
-    let mut at = usize::from(at);
-    for b in value.to_le_bytes().iter().take(usize::from(width)) {
-        if at < note.len() {
-            note[at] = *b;
-        }
-        at = at.saturating_add(1);
+fn put(note: &mut [u8], at: usize, width: usize, value: u32) {
+    let field = note.iter_mut().skip(at).take(width);
+    for (byte, new) in field.zip(value.to_le_bytes()) {
+        *byte = new;
     }
 }
 
 #[test]
 fn a_building(rt: HostRuntime) {
-    // offset and width of a field, its value, and the refusal
-    let cases: [(u8, u8, u32, u8); 29] = [
-        (4, 4, 0, 4),
-        (4, 4, 1, 0),
-        (4, 4, 100_000_000, 0),
-        (4, 4, 100_000_001, 4),
-        (4, 4, 0xFFFF_FFFF, 4),
-        (8, 2, 0, 4),
-        (8, 2, 1, 0),
-        (8, 2, 100, 0),
-        (8, 2, 101, 4),
-        (8, 2, 0x0101, 4),
-        (10, 2, 0, 4),
-        (10, 2, 1, 0),
-        (10, 2, 5, 0),
-        (10, 2, 6, 4),
-        (12, 2, 0, 4),
-        (12, 2, 1, 0),
-        (12, 2, 4, 0),
-        (12, 2, 5, 4),
-        (14, 2, 0, 4),
-        (14, 2, 1, 0),
-        (14, 2, 8, 0),
-        (14, 2, 9, 4),
-        (16, 2, 0, 0),
-        (16, 2, 10_000, 0),
-        (16, 2, 10_001, 4),
-        (0, 2, 3, 1),
-        (0, 2, 19, 1),
-        (0, 2, 17, 3),
-        (2, 2, 2, 2),
+    // offset and width of a field, its value, and the number by which it is refused
+    let cases: [(usize, usize, u32, Option<u8>); 29] = [
+        (4, 4, 0, Some(4)),
+        (4, 4, 1, None),
+        (4, 4, 100_000_000, None),
+        (4, 4, 100_000_001, Some(4)),
+        (4, 4, 0xFFFF_FFFF, Some(4)),
+        (8, 2, 0, Some(4)),
+        (8, 2, 1, None),
+        (8, 2, 100, None),
+        (8, 2, 101, Some(4)),
+        (8, 2, 0x0101, Some(4)),
+        (10, 2, 0, Some(4)),
+        (10, 2, 1, None),
+        (10, 2, 5, None),
+        (10, 2, 6, Some(4)),
+        (12, 2, 0, Some(4)),
+        (12, 2, 1, None),
+        (12, 2, 4, None),
+        (12, 2, 5, Some(4)),
+        (14, 2, 0, Some(4)),
+        (14, 2, 1, None),
+        (14, 2, 8, None),
+        (14, 2, 9, Some(4)),
+        (16, 2, 0, None),
+        (16, 2, 10_000, None),
+        (16, 2, 10_001, Some(4)),
+        (0, 2, 3, Some(1)),
+        (0, 2, 19, Some(1)),
+        (0, 2, 17, Some(3)),
+        (2, 2, 2, Some(2)),
     ];
     for (at, width, value, expected) in cases {
         let mut note = BUILDING;
         put(&mut note, at, width, value);
-        assert_eq!(rt; outcome(Building::read(&note)), expected, "{value}");
+        assert_eq!(rt; refused(Building::read(&note)), expected, "{value}");
     }
 }
 
 #[test]
 fn a_factor_row(rt: HostRuntime) {
-    let cases: [(u8, u8, u32, u8); 12] = [
-        (4, 4, 0, 0),
-        (4, 4, 0xFFFF_FFFF, 0),
-        (8, 4, 0, 0),
-        (8, 4, 1_000_000_000, 0),
-        (8, 4, 1_000_000_001, 4),
-        (12, 2, 0, 4),
-        (12, 2, 1, 0),
-        (12, 2, 7, 0),
-        (12, 2, 8, 4),
-        (0, 2, 15, 1),
-        (0, 2, 13, 3),
-        (2, 2, 1, 2),
+    let cases: [(usize, usize, u32, Option<u8>); 12] = [
+        (4, 4, 0, None),
+        (4, 4, 0xFFFF_FFFF, None),
+        (8, 4, 0, None),
+        (8, 4, 1_000_000_000, None),
+        (8, 4, 1_000_000_001, Some(4)),
+        (12, 2, 0, Some(4)),
+        (12, 2, 1, None),
+        (12, 2, 7, None),
+        (12, 2, 8, Some(4)),
+        (0, 2, 15, Some(1)),
+        (0, 2, 13, Some(3)),
+        (2, 2, 1, Some(2)),
     ];
     for (at, width, value, expected) in cases {
         let mut note = FACTOR;
         put(&mut note, at, width, value);
-        assert_eq!(rt; outcome(FactorRow::read(&note)), expected, "{value}");
+        assert_eq!(rt; refused(FactorRow::read(&note)), expected, "{value}");
     }
 }
 
@@ -99,43 +93,43 @@ fn a_factor_row(rt: HostRuntime) {
 #[test]
 fn the_smallest_number(rt: HostRuntime) {
     let short = b"\x08\0\x01\0\0\0\0\0";
-    assert_eq!(rt; outcome(Building::read(short)), 3);
-    assert_eq!(rt; outcome(FactorRow::read(short)), 2);
-    assert_eq!(rt; outcome(Note::read(short)), 3);
-    assert_eq!(rt; outcome(Building::read(b"")), 1);
-    assert_eq!(rt; outcome(FactorRow::read(b"")), 1);
-    assert_eq!(rt; outcome(Note::read(b"")), 1);
-    assert_eq!(rt; outcome(Head::read(b"\x12\0\x01")), 1);
-    assert_eq!(rt; outcome(Head::read(b"\x03\0\x01\0")), 1);
-    assert_eq!(rt; outcome(Head::read(b"\x04\0\x01\0")), 0);
+    assert_eq!(rt; refused(Building::read(short)), Some(3));
+    assert_eq!(rt; refused(FactorRow::read(short)), Some(2));
+    assert_eq!(rt; refused(Note::read(short)), Some(3));
+    assert_eq!(rt; refused(Building::read(b"")), Some(1));
+    assert_eq!(rt; refused(FactorRow::read(b"")), Some(1));
+    assert_eq!(rt; refused(Note::read(b"")), Some(1));
+    assert_eq!(rt; refused(Head::read(b"\x12\0\x01")), Some(1));
+    assert_eq!(rt; refused(Head::read(b"\x03\0\x01\0")), Some(1));
+    assert_eq!(rt; refused(Head::read(b"\x04\0\x01\0")), None);
 }
 
 // Notes of every kind that are too long or too short, and of kinds that there are not; trailing bytes do not make up for it.
 #[test]
 fn every_kind(rt: HostRuntime) {
-    // kind, length, and the refusal
-    let cases: [(u8, u8, u8); 15] = [
-        (0, 18, 2),
-        (6, 36, 2),
-        (255, 4, 2),
-        (1, 17, 3),
-        (1, 19, 3),
-        (2, 13, 3),
-        (2, 15, 3),
-        (3, 27, 3),
-        (3, 28, 0),
-        (3, 29, 3),
-        (4, 27, 3),
-        (4, 28, 0),
-        (4, 29, 3),
-        (5, 11, 3),
-        (5, 13, 3),
+    // kind, length, and the number by which it is refused
+    let cases: [(u8, u8, Option<u8>); 15] = [
+        (0, 18, Some(2)),
+        (6, 36, Some(2)),
+        (255, 4, Some(2)),
+        (1, 17, Some(3)),
+        (1, 19, Some(3)),
+        (2, 13, Some(3)),
+        (2, 15, Some(3)),
+        (3, 27, Some(3)),
+        (3, 28, None),
+        (3, 29, Some(3)),
+        (4, 27, Some(3)),
+        (4, 28, None),
+        (4, 29, Some(3)),
+        (5, 11, Some(3)),
+        (5, 13, Some(3)),
     ];
     for (kind, length, expected) in cases {
         let mut bytes = [0u8; 40];
         bytes[0] = length;
         bytes[2] = kind;
-        assert_eq!(rt; outcome(Note::read(&bytes)), expected, "{kind}");
+        assert_eq!(rt; refused(Note::read(&bytes)), expected, "{kind}");
     }
 }
 
@@ -148,9 +142,9 @@ fn trailing_bytes(rt: HostRuntime) -> Result<(), Fail> {
     };
     assert_eq!(rt; building.area, 10_000);
     assert_eq!(rt; building.life, 50);
-    assert_eq!(rt; building.region.number(), 2);
+    assert_eq!(rt; u16::from(building.region), 2);
     assert_eq!(rt; building.sun, 3);
-    assert_eq!(rt; building.building_type.number(), 1);
+    assert_eq!(rt; u16::from(building.building_type), 1);
     assert_eq!(rt; building.reference, 9);
     let bytes = b"\x0E\0\x02\0\x07\0\0\0\xC0\xCF\x6A\0\x01\0\0";
     let Ok(row) = FactorRow::read(bytes) else {
@@ -177,6 +171,6 @@ fn a_plain_row(rt: HostRuntime) {
             amount,
             unit,
         };
-        assert_eq!(rt; row.factor().is_some(), good, "{amount}");
+        assert_eq!(rt; Factor::try_from(row).is_ok(), good, "{amount}");
     }
 }

@@ -1,5 +1,6 @@
 // The sample feed, cut short at every length.
-use feed::reader::{Next, Reader};
+use feed::reader::Reader;
+use refusals::Refusal;
 use std::test::Fail;
 
 const FEED: &[u8; 198] = b"\
@@ -14,41 +15,32 @@ const FEED: &[u8; 198] = b"\
 \x1c\0\x03\0\x05\0\0\0\0\0\0\0\x14\0\0\0\x08\0\0\0\xe0\x93\x04\0\0\0\0\0";
 
 // where its notes end
-const ENDS: [usize; 10] = [0, 18, 32, 46, 74, 86, 114, 142, 170, 198];
-
-// How a feed ends: 0 at its end, else the number of the refusal; none at a note.
-fn ending(next: Next) -> Option<u8> {
-    match next {
-        Next::Note(_) => None,
-        Next::End => Some(0),
-        Next::Refused(refusal) => Some(refusal.number()),
-    }
-}
+const ENDS: [usize; 9] = [18, 32, 46, 74, 86, 114, 142, 170, 198];
 
 #[test]
 fn cut_at_every_length(rt: HostRuntime) -> Result<(), Fail> {
     let feed: &[u8] = FEED;
-    for n in 0..199usize {
-        let mut reader = Reader::new(&feed[0..n]);
+    for n in 0..=feed.len() {
+        let mut reader = Reader::new(&feed[..n]);
         let mut end = 0;
         let mut notes = 0;
-        for k in 1..10usize {
-            if ENDS[k] > n {
+        for (place, next) in (1..10).zip(ENDS) {
+            if next > n {
                 break;
             }
-            let Next::Note(part) = reader.next() else {
+            let Ok(Some(part)) = reader.next() else {
                 return Err(Fail::new("a note is missing"));
             };
-            assert_eq!(rt; part.place, k);
+            assert_eq!(rt; part.place, place);
             assert_eq!(rt; part.start, end);
-            assert_eq!(rt; part.start.wrapping_add(part.bytes.len()), ENDS[k]);
+            assert_eq!(rt; part.start.wrapping_add(part.bytes.len()), next);
             assert_eq!(rt; part.bytes.first().copied(), feed.get(end).copied());
-            end = ENDS[k];
-            notes = k;
+            end = next;
+            notes = place;
         }
-        let expected = if n == end { Some(0) } else { Some(1) };
+        let expected = if n == end { Ok(None) } else { Err(1) };
         for _ in 0..3 {
-            assert_eq!(rt; ending(reader.next()), expected);
+            assert_eq!(rt; reader.next().map_err(Refusal::number), expected);
             let left = reader.left();
             assert_eq!(rt; left.place, notes.wrapping_add(1));
             assert_eq!(rt; left.start, end);

@@ -3,7 +3,7 @@ use codes::FactorUnit;
 use factors::{BuiltIn, FactorSource};
 
 // Name and global warming potential of each refrigerant, in the order of their codes.
-const PRINTED: [(&str, u64); 15] = [
+const PRINTED: [(&str, u32); 15] = [
     ("R-125", 3500),
     ("R-134a", 1430),
     ("R-143a", 4470),
@@ -22,38 +22,31 @@ const PRINTED: [(&str, u64); 15] = [
 ];
 
 // The amount of a code, and what it is per; none where the code is lacking.
-fn told(code: u32) -> Option<(u64, &'static str)> {
-    match BuiltIn.factor(code) {
-        Ok(factor) => {
-            let unit = match factor.unit {
-                FactorUnit::KilowattHour => "kilowatt-hour",
-                FactorUnit::Kilogram => "kilogram",
-                _ => "something else",
-            };
-            Some((u64::from(factor.amount), unit))
-        }
-        Err(_) => None,
-    }
+fn told(code: u32) -> Option<(u64, FactorUnit)> {
+    let factor = BuiltIn.factor(code).ok()?;
+    Some((u64::from(factor.amount), factor.unit))
 }
 
 #[test]
 fn every_refrigerant(rt: HostRuntime) {
-    let mut code: u32 = 101;
-    for (name, warming) in PRINTED {
-        assert_eq!(rt; told(code), Some((warming * 10_000, "kilogram")), "{name}");
-        code = code.saturating_add(1);
+    for (code, (name, warming)) in (101..=115).zip(PRINTED) {
+        assert_eq!(rt;
+            told(code),
+            Some((u64::from(warming) * 10_000, FactorUnit::Kilogram)),
+            "{name}"
+        );
     }
 }
 
 #[test]
 fn grid_electricity(rt: HostRuntime) {
-    assert_eq!(rt; told(1), Some((5_000, "kilowatt-hour")));
+    assert_eq!(rt; told(1), Some((5_000, FactorUnit::KilowattHour)));
 }
 
 // What lies beside the table, and the ends of a code's width.
 #[test]
 fn no_other_code(rt: HostRuntime) {
     for code in [0, 2, 100, 116, 1_000_101, u32::MAX] {
-        assert_eq!(rt; told(code).is_none(), true, "{code}");
+        assert_eq!(rt; told(code), None, "{code}");
     }
 }

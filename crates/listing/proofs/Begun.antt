@@ -1,12 +1,10 @@
 -- The beginning of a feed, and that it has one. Assumes nothing.
-use Rattle.std.proofs.Common.{◌≡◌, ℕ, List, ◌∷◌, ◌++◌, length, drop, Ok, Err, Option, sym, refl, ap, ◌∙◌, subst, arith}
+use Rattle.std.proofs.Common.{◌≡◌, ℕ, List, ◌∷◌, ◌++◌, length, drop, Some, None, Ok, Err, Option, sym, refl, ap, ◌∙◌, subst, arith}
 use Rattle.feed.specs.declared.building.Building.{Building}
 use Rattle.feed.specs.declared.factor.FactorRow.{FactorRow}
-use Rattle.feed.specs.declared.reader.Next.{Next}
-use Rattle.feed.specs.declared.reader.Next.TheVariants.{Note, End, Refused}
 use Rattle.feed.specs.declared.reader.Reader.{Reader}
 use Rattle.feed.specs.Factors.{factor_row, IsFactorRow}
-use Rattle.feed.specs.Feeds.{text, left_of, Opened, Answered}
+use Rattle.feed.specs.Feeds.{Answer, text, left_of, Opened, Answered}
 use Rattle.feed.specs.Frames.{Framed, OneNote, first_note, note_kind}
 use Rattle.feed.specs.Readings.{Reads, readable}
 use Rattle.feed.proofs.Framing.{one_first, first_one, first_whole, framed_front, front_only}
@@ -21,16 +19,16 @@ pub not_both : {X : Type 0} (Wanted : ℕ → Type 0) (Value : List ℕ → X �
 not_both Wanted Value bs x f a b = unbroken (readable Wanted bs) a.0 (refusal_number f) b.0
 
 -- after the first call of a reader over a feed that has a first note, the rest is left
-pub rest_left : (feed : List ℕ) (r : Reader) (a : Next) (t : Reader) → Opened feed r → Answered r a t → Framed feed → (n : List ℕ) × OneNote n × (feed ≡ n ++ left_of t)
+pub rest_left : (feed : List ℕ) (r : Reader) (a : Answer) (t : Reader) → Opened feed r → Answered r a t → Framed feed → (n : List ℕ) × OneNote n × (feed ≡ n ++ left_of t)
 rest_left feed r a t start step framed = go a step
   where
     all : left_of r ≡ feed
     all = rw (start.bytes, start.over)
 
-    go : (a : Next) → Answered r a t → (n : List ℕ) × OneNote n × (feed ≡ n ++ left_of t)
-    go (Note p) step = (text p, hands_note r p t step, sym all ∙ sym (hands_next r p t step))
-    go End step = let e = ap length (sym all ∙ step.0) in absurd (omega (arith, framed.head))
-    go (Refused f) step = absurd (step.0.1 (subst Framed (sym all) framed))
+    go : (a : Answer) → Answered r a t → (n : List ℕ) × OneNote n × (feed ≡ n ++ left_of t)
+    go (Ok (Some p)) step = (text p, hands_note r p t step, sym all ∙ sym (hands_next r p t step))
+    go (Ok None) step = let e = ap length (sym all ∙ step.0) in absurd (omega (arith, framed.head))
+    go (Err f) step = absurd (step.0.1 (subst Framed (sym all) framed))
 
 -- the first note of bytes that begin with a note
 first_front : (n rest bs : List ℕ) → OneNote n → bs ≡ n ++ rest → first_note bs ≡ n

@@ -1,10 +1,8 @@
 -- What a turn of `listing` keeps. Assumes nothing.
-use Rattle.std.proofs.Common.{◌≡◌, ℕ, ◌+◌, List, [], ◌++◌, length, sym, refl, ap, ◌∙◌, subst, append_assoc}
-use Rattle.feed.specs.declared.reader.Next.{Next}
-use Rattle.feed.specs.declared.reader.Next.TheVariants.{Note}
+use Rattle.std.proofs.Common.{◌≡◌, ℕ, ◌+◌, List, [], ◌++◌, length, Some, Ok, sym, refl, ap, ◌∙◌, subst, append_assoc}
 use Rattle.feed.specs.declared.reader.Part.{Part}
 use Rattle.feed.specs.declared.reader.Reader.{Reader}
-use Rattle.feed.specs.Feeds.{text, left_of, Opened, Hands, Answered, IsLeft}
+use Rattle.feed.specs.Feeds.{Answer, text, left_of, Opened, Hands, Answered, IsLeft}
 use Rattle.feed.proofs.Running.{hands_next, hands_note, stays_left, no_note}
 use Rattle.listing.specs.Lines.{Line}
 use Rattle.listing.specs.Openings.{Account}
@@ -34,7 +32,7 @@ module _ (a : Account) (feed : List ℕ) (r : Reader) (listing : List ℕ) where
         }
 
     -- no note more: the line for what is left comes last
-    pub no_more : (n : Next) (t : Reader) (left : Part) (line pushed longer : List ℕ) → ((p : Part) → n ≡ Note p → ⊥) → Answered r n t → IsLeft t left → LastLine a left.place left.start (text left) line → longer ≡ listing ++ pushed → pushed ≡ line → Lists a 1 0 feed longer
+    pub no_more : (n : Answer) (t : Reader) (left : Part) (line pushed longer : List ℕ) → ((p : Part) → n ≡ Ok (Some p) → ⊥) → Answered r n t → IsLeft t left → LastLine a left.place left.start (text left) line → longer ≡ listing ++ pushed → pushed ≡ line → Lists a 1 0 feed longer
     no_more n t left line pushed longer other step is_left told more_text is =
         let none = no_note r n t other step in
         let stays = none.1 in

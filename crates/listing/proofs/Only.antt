@@ -1,5 +1,5 @@
 -- A feed has one listing. Assumes nothing.
-use Rattle.std.proofs.Common.{◌≡◌, ℕ, ◌+◌, List, [], ◌∷◌, ◌++◌, length, Some, None, Ok, Err, codes, decimal, Option, Result, sym, refl, ap, ◌∙◌, subst, ⊎_elim, arith}
+use Rattle.std.proofs.Common.{◌≡◌, ℕ, ◌+◌, List, [], ◌∷◌, ◌++◌, length, Some, None, Ok, Err, codes, decimal, Option, Result, sym, refl, ap, ◌∙◌, subst, ⊎_elim, arith, lit≤}
 use Rattle.std.specs.Fmt.{signed_decimal}
 use Rattle.feed.specs.declared.note.Note.{Note}
 use Rattle.refusals.specs.declared.refusal.Refusal.{Refusal}
@@ -14,35 +14,46 @@ use Rattle.factors.specs.Maps.{Map}
 use Rattle.feed.specs.Frames.{Framed, first_note, note_kind}
 use Rattle.feed.specs.Notes.{Says}
 use Rattle.codes.specs.Ranges.{KindRange}
+use Rattle.codes.specs.Words.{kind_word}
 use Rattle.feed.specs.Readings.{readable, Reads}
-use Rattle.refusals.specs.Refusals.{refusal_number}
-use Rattle.refusals.proofs.Deciding.{least_only, unbroken}
+use Rattle.feed.specs.Words.{named}
+use Rattle.refusals.specs.Refusals.{refusal_number, refusal_codes}
+use Rattle.refusals.specs.Texts.{codes_said, refusal_said}
+use Rattle.refusals.proofs.Numbers.{no_codes}
+use Rattle.refusals.proofs.Deciding.{least_only, unbroken, broken_up_to}
 use Rattle.feed.proofs.Framing.{framed_front, framed_or_not, front_only}
-use Rattle.listing.specs.Lines.{named, note_said, refused, RefusedSaid, codes_said, outcome_said, Weighs, NoteTold, Said, Line}
+use Rattle.listing.specs.Lines.{note_said, RefusedSaid, outcome_said, Weighs, NoteTold, Said, Tells, Line}
 use Rattle.listing.specs.Openings.{Account, unbooked, by, account_with}
 use Rattle.listing.specs.Listings.{LastLine, Lists, note, last, Listing}
 use Rattle.listing.proofs.Begun.{account_only}
 
-refused_only : (bs : List ℕ) (m n : ℕ) (s t : List ℕ) → m ≡ n → RefusedSaid bs m s → RefusedSaid bs n t → s ≡ t
-refused_only bs m n s t same a b =
-    let a' = subst (λ k. RefusedSaid bs k s) same a in
-    ⊎_elim (λ framed. a'.note framed ∙ sym (b.note framed)) (λ unframed. a'.unframed unframed ∙ sym (b.unframed unframed)) (framed_or_not bs)
+-- reading refuses by no number above 4, so its refusals name no codes
+names_none : (bs : List ℕ) (f : Refusal) → Reads {X = Note} KindRange Says bs (Err f) → refusal_codes f ≡ []
+names_none bs f reads =
+    let small = broken_up_to 4 (readable KindRange bs) (lit≤ tt, (lit≤ tt, (lit≤ tt, (lit≤ tt, tt)))) (refusal_number f) reads.0 in
+    no_codes f (λ e. omega arith)
+
+refused_only : (bs : List ℕ) (f g : Refusal) (s t : List ℕ) → refusal_said f ≡ refusal_said g → RefusedSaid bs f s → RefusedSaid bs g t → s ≡ t
+refused_only bs f g s t same a b =
+    ⊎_elim (λ framed. a.note framed ∙ ap (λ x. kind_word (note_kind (first_note bs)) ++ (named (codes "kind", note_kind (first_note bs)) ++ (named (codes "length", length (first_note bs)) ++ (codes " " ++ x)))) same ∙ sym (b.note framed))
+    (λ unframed. a.unframed unframed ∙ ap (λ x. codes "unframed" ++ (named (codes "left", length bs) ++ (codes " " ++ x))) same ∙ sym (b.unframed unframed))
+    (framed_or_not bs)
 
 -- what is said of a line, by its numbers
-line_said : Booked → List ℕ
-line_said b = named (codes "thousandths", b.thousandths) ++ (codes " grams=" ++ signed_decimal (signed_grams (subtracted b.row) b.grams))
+numbers_said : Booked → List ℕ
+numbers_said b = codes "thousandths=" ++ (decimal b.thousandths ++ (codes " grams=" ++ signed_decimal (signed_grams (subtracted b.row) b.grams)))
 
-outcome_only : (y : ℕ) (known : Map) (e : Entry) (p q : Result Booking Refusal) → Books y known e p → Books y known e q → outcome_said p ≡ outcome_said q
-unfolding line_said
-outcome_only y known e (Ok l) (Ok m) a b = ap line_said (one_line y known e l m a b)
+outcome_only : (y : ℕ) (known : Map) (e : Entry) (p q : Result Booking Refusal) → Books y known e p → Books y known e q → outcome_said (Some p) ≡ outcome_said (Some q)
+unfolding numbers_said
+outcome_only y known e (Ok l) (Ok m) a b = ap numbers_said (one_line y known e l m a b)
 outcome_only y known e (Ok l) (Err g) a b = absurd (not_both y known e l g a b)
 outcome_only y known e (Err f) (Ok m) a b = absurd (not_both y known e m f b a)
-outcome_only y known e (Err f) (Err g) a b = let same = one_refusal y known e f g a b in (λ i. refused (same.0 i) ++ codes_said (same.1 i))
+outcome_only y known e (Err f) (Err g) a b = let same = one_refusal y known e f g a b in (λ i. codes "refused " ++ (decimal (same.0 i) ++ codes_said (same.1 i)))
 
 weighs_only : (a : Account) (e : Option Entry) (s t : List ℕ) → Weighs a e s → Weighs a e t → s ≡ t
 weighs_only a None s t w v = w ∙ sym v
 weighs_only unbooked (Some e) s t w v = w ∙ sym v
-weighs_only (by y known) (Some e) s t w v = w.text ∙ outcome_only y known e w.answer v.answer w.books v.books ∙ sym v.text
+weighs_only (by y known) (Some e) s t w v = w.text ∙ ap (λ o. codes " " ++ o) (outcome_only y known e w.answer v.answer w.books v.books) ∙ sym v.text
 
 note_only : (a : Account) (n s t : List ℕ) → NoteTold a n s → NoteTold a n t → s ≡ t
 note_only a n s t p q = p.text ∙ ap (λ w. note_said n ++ w) (weighs_only a (kind_entry (note_kind n) n) _ _ p.weighs q.weighs) ∙ sym q.text
@@ -53,11 +64,16 @@ said_only a bs s t (Ok m) (Ok n) reads reads' said said' = note_only a (first_no
 said_only a bs s t (Ok m) (Err g) reads reads' said said' = absurd (unbroken (readable KindRange bs) reads.0 _ reads'.0)
 said_only a bs s t (Err f) (Ok n) reads reads' said said' = absurd (unbroken (readable KindRange bs) reads'.0 _ reads.0)
 said_only a bs s t (Err f) (Err g) reads reads' said said' =
-    refused_only bs (refusal_number f) (refusal_number g) s t (least_only (readable KindRange bs) _ _ reads reads') said said'
+    let same = least_only (readable KindRange bs) _ _ reads reads' in
+    let none = names_none bs f reads ∙ sym (names_none bs g reads') in
+    refused_only bs f g s t (λ i. codes "refused " ++ (decimal (same i) ++ codes_said (none i))) said said'
+
+tells_only : (a : Account) (bs s t : List ℕ) → Tells a bs s → Tells a bs t → s ≡ t
+tells_only a bs s t x y = said_only a bs s t _ _ x.read y.read x.tells y.tells
 
 pub line_only : (a : Account) (k at : ℕ) (bs l m : List ℕ) → Line a k at bs l → Line a k at bs m → l ≡ m
 line_only a k at bs l m x y =
-    x.text ∙ ap (λ s. decimal k ++ (named (codes "at", at) ++ (codes " " ++ (s ++ codes "\n")))) (said_only a bs _ _ _ _ x.read y.read x.tells y.tells) ∙ sym y.text
+    x.text ∙ ap (λ s. decimal k ++ (named (codes "at", at) ++ (codes " " ++ (s ++ codes "\n")))) (tells_only a bs _ _ x.tells y.tells) ∙ sym y.text
 
 last_only : (a : Account) (k at : ℕ) (bs l m : List ℕ) → LastLine a k at bs l → LastLine a k at bs m → l ≡ m
 last_only a k at [] l m p q = p.none refl ∙ sym (q.none refl)

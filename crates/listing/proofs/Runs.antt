@@ -1,12 +1,10 @@
 -- What a turn over the factor rows of a feed keeps. Assumes nothing.
-use Rattle.std.proofs.Common.{◌≡◌, ℕ, List, [], ◌∷◌, ◌++◌, Ok, Err, sym, ap, ◌∙◌, subst, append_assoc, append-nil}
+use Rattle.std.proofs.Common.{◌≡◌, ℕ, List, [], ◌∷◌, ◌++◌, Some, Ok, Err, sym, ap, ◌∙◌, subst, append_assoc, append-nil}
 use Rattle.feed.specs.declared.factor.FactorRow.{FactorRow}
-use Rattle.feed.specs.declared.reader.Next.{Next}
-use Rattle.feed.specs.declared.reader.Next.TheVariants.{Note}
 use Rattle.feed.specs.declared.reader.Part.{Part}
 use Rattle.feed.specs.declared.reader.Reader.{Reader}
 use Rattle.feed.specs.Factors.{IsFactorRow}
-use Rattle.feed.specs.Feeds.{text, left_of, Opened, Hands, Answered}
+use Rattle.feed.specs.Feeds.{Answer, text, left_of, Opened, Hands, Answered}
 use Rattle.feed.specs.Frames.{first_note, note_kind}
 use Rattle.feed.specs.Readings.{Reads}
 use Rattle.feed.proofs.Framing.{one_first, framed_one, first_one}
@@ -34,7 +32,7 @@ module _ (bytes : List ℕ) (r : Reader) (rows : List FactorRow) where
     no_row : (RowFirst (left_of r) → ⊥) → Rows bytes rows
     no_row other = subst (Rows bytes) (append-nil rows) (old.before [] (ended other))
 
-    pub no_more : (n : Next) (t : Reader) → ((p : Part) → n ≡ Note p → ⊥) → Answered r n t → Rows bytes rows
+    pub no_more : (n : Answer) (t : Reader) → ((p : Part) → n ≡ Ok (Some p) → ⊥) → Answered r n t → Rows bytes rows
     no_more n t other step = no_row (λ first. (no_note r n t other step).0 first.0)
 
     module _ (p : Part) (t : Reader) (step : Hands r p t) where

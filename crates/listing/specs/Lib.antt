@@ -1,3 +1,4 @@
 pub mod Lines
 pub mod Listings
 pub mod Openings
+pub mod Statements

@@ -1,111 +1,64 @@
 -- The lines of a listing. Assumes nothing.
 use Rattle.std.specs.Prelude.{◌≡◌, ℕ, List, [], ◌∷◌, ◌++◌, length, Some, None, Ok, Err, codes, decimal, Option, Result, slice_index_or}
-use Rattle.std.specs.List.{flat_map}
-use Rattle.std.specs.Fmt.{signed_decimal}
 use Rattle.booking.specs.declared.entry.Entry.{Entry}
 use Rattle.booking.specs.declared.line.Line.{Line as Booking}
 use Rattle.booking.specs.Booked.{Books}
 use Rattle.booking.specs.Entries.{kind_entry}
-use Rattle.booking.specs.Rows.{row_number, subtracted}
-use Rattle.booking.specs.Weights.{signed_grams}
+use Rattle.booking.specs.Lines.{line_said}
+use Rattle.codes.specs.Ranges.{KindRange}
+use Rattle.codes.specs.Words.{kind_word}
 use Rattle.factors.specs.Maps.{Map}
-use Rattle.feed.specs.declared.building.BuildingNumbers.{BuildingNumbers}
-use Rattle.feed.specs.declared.entry.CountedEntry.{CountedEntry}
-use Rattle.feed.specs.declared.entry.EntryHead.{EntryHead}
-use Rattle.feed.specs.declared.entry.MeasuredEntry.{MeasuredEntry}
-use Rattle.feed.specs.declared.entry.Withdrawal.{Withdrawal}
-use Rattle.feed.specs.declared.factor.FactorRow.{FactorRow}
 use Rattle.feed.specs.declared.note.Note.{Note}
 use Rattle.feed.specs.declared.reader.Part.{Part}
-use Rattle.refusals.specs.declared.refusal.Refusal.{Refusal}
 use Rattle.feed.specs.Buildings.{building_numbers}
 use Rattle.feed.specs.Entries.{counted, measured, withdrawal}
 use Rattle.feed.specs.Factors.{factor_row}
 use Rattle.feed.specs.Feeds.{text}
 use Rattle.feed.specs.Frames.{Framed, first_note, note_kind}
 use Rattle.feed.specs.Notes.{Says}
-use Rattle.codes.specs.Ranges.{KindRange}
 use Rattle.feed.specs.Readings.{Reads}
-use Rattle.refusals.specs.Refusals.{refusal_number, refusal_codes}
+use Rattle.feed.specs.Words.{Named, named, building_fields, factor_fields, entry_fields, withdrawal_fields, said_of}
+use Rattle.refusals.specs.declared.refusal.Refusal.{Refusal}
+use Rattle.refusals.specs.Texts.{refusal_said}
 use Rattle.listing.specs.Openings.{Account, unbooked, by}
-
--- the word for a kind
-abbrev pub kind_word : ℕ → List ℕ
-kind_word k =
-    slice_index_or (codes "unknown" ∷ codes "building" ∷ codes "factor" ∷ codes "entry" ∷ codes "measured" ∷ codes "withdrawal" ∷ []) k (codes "unknown")
-
--- a field's name and its value
-abbrev pub Named : Type 0
-Named = List ℕ × ℕ
-
-abbrev pub named : Named → List ℕ
-named f = codes " " ++ (f.0 ++ (codes "=" ++ decimal f.1))
-
-abbrev pub building_fields : BuildingNumbers → List Named
-building_fields b =
-    (codes "area", b.area) ∷ (codes "life", b.life) ∷ (codes "region", b.region) ∷ (codes "sun", b.sun)
-    ∷ (codes "type", b.building_type) ∷ (codes "reference", b.reference) ∷ []
-
-abbrev pub factor_fields : FactorRow → List Named
-factor_fields row = (codes "code", row.code) ∷ (codes "amount", row.amount) ∷ (codes "unit", row.unit) ∷ []
-
-abbrev pub head_fields : EntryHead → List Named
-head_fields e =
-    (codes "number", e.number) ∷ (codes "revision", e.revision) ∷ (codes "row", e.row) ∷ (codes "span", e.span)
-    ∷ (codes "code", e.code) ∷ []
-
-abbrev pub counted_fields : CountedEntry → List Named
-counted_fields e = head_fields e.head ++ ((codes "quantity", e.quantity) ∷ [])
-
-abbrev pub measured_fields : MeasuredEntry → List Named
-measured_fields e = head_fields e.head ++ ((codes "bits", e.bits) ∷ [])
-
-abbrev pub withdrawal_fields : Withdrawal → List Named
-withdrawal_fields w = (codes "number", w.number) ∷ (codes "revision", w.revision) ∷ []
 
 -- the fields of a note of the kind k
 abbrev pub kind_fields : ℕ → List ℕ → List Named
 kind_fields k note =
-    slice_index_or ([] ∷ building_fields (building_numbers note) ∷ factor_fields (factor_row note) ∷ counted_fields (counted note) ∷ measured_fields (measured note) ∷ withdrawal_fields (withdrawal note) ∷ []) k []
-
--- a kind in a word, and fields by name
-abbrev pub said_of : ℕ → List Named → List ℕ
-said_of k fields = kind_word k ++ flat_map named fields
+    slice_index_or ([] ∷ building_fields (building_numbers note) ∷ factor_fields (factor_row note) ∷ entry_fields (counted note) ∷ entry_fields (measured note) ∷ withdrawal_fields (withdrawal note) ∷ []) k []
 
 -- what is said of a note
 abbrev pub note_said : List ℕ → List ℕ
 note_said note = said_of (note_kind note) (kind_fields (note_kind note) note)
 
-abbrev pub refused : ℕ → List ℕ
-refused n = codes " refused " ++ decimal n
+-- what is said of a note that is refused: its kind, its length, and the refusal
+abbrev pub note_refused : ℕ → ℕ → Refusal → List ℕ
+note_refused k n f = kind_word k ++ (named (codes "kind", k) ++ (named (codes "length", n) ++ (codes " " ++ refusal_said f)))
 
--- what is said of bytes that are refused by the number n: of a note its kind and its length, and else how many bytes there are
-pub record RefusedSaid (bs : List ℕ) (n : ℕ) (s : List ℕ) : Type 0 where
-  pub note : Framed bs → s ≡ kind_word (note_kind (first_note bs)) ++ (named (codes "kind", note_kind (first_note bs)) ++ (named (codes "length", length (first_note bs)) ++ refused n))
-  pub unframed : (Framed bs → ⊥) → s ≡ codes "unframed" ++ (named (codes "left", length bs) ++ refused n)
+-- what is said of so many bytes from which no note can be told
+abbrev pub bytes_refused : ℕ → Refusal → List ℕ
+bytes_refused left f = codes "unframed" ++ (named (codes "left", left) ++ (codes " " ++ refusal_said f))
 
--- the codes that a lack names
-abbrev pub codes_said : List ℕ → List ℕ
-codes_said [] = []
-codes_said (asked ∷ []) = []
-codes_said (asked ∷ lacking ∷ more) = named (codes "asked", asked) ++ named (codes "lacking", lacking)
+-- s is what is said of bytes that are refused
+pub record RefusedSaid (bs : List ℕ) (f : Refusal) (s : List ℕ) : Type 0 where
+  pub note : Framed bs → s ≡ note_refused (note_kind (first_note bs)) (length (first_note bs)) f
+  pub unframed : (Framed bs → ⊥) → s ≡ bytes_refused (length bs) f
 
--- what is said of a booking: its thousandths and its grams as they count, or by which number it is refused
-abbrev pub outcome_said : Result Booking Refusal → List ℕ
-outcome_said (Ok line) =
-    named (codes "thousandths", line.thousandths)
-    ++ (codes " grams=" ++ signed_decimal (signed_grams (subtracted (row_number line.row)) line.grams))
-outcome_said (Err f) = refused (refusal_number f) ++ codes_said (refusal_codes f)
+-- what is said of what an entry is booked at: its line, or why it is refused; without a building it is not booked
+abbrev pub outcome_said : Option (Result Booking Refusal) → List ℕ
+outcome_said (Some (Ok line)) = line_said line
+outcome_said (Some (Err f)) = refusal_said f
+outcome_said None = codes "unbooked"
 
 -- s is what is said of what an entry is booked at
 pub record Weighed (y : ℕ) (known : Map) (e : Entry) (s : List ℕ) : Type 0 where
   pub answer : Result Booking Refusal
   pub books : Books y known e answer
-  pub text : s ≡ outcome_said answer
+  pub text : s ≡ codes " " ++ outcome_said (Some answer)
 
 abbrev pub Weighs : Account → Option Entry → List ℕ → Type 0
 Weighs a None s = s ≡ []
-Weighs unbooked (Some e) s = s ≡ codes " unbooked"
+Weighs unbooked (Some e) s = s ≡ codes " " ++ outcome_said None
 Weighs (by y known) (Some e) s = Weighed y known e s
 
 -- s is all that is said of a note: what it says, and what it is booked at where it is an entry
@@ -117,14 +70,18 @@ pub record NoteTold (a : Account) (note s : List ℕ) : Type 0 where
 -- s is what is said of bytes that are read so: all of their first note, or why they are refused
 abbrev pub Said : Account → List ℕ → Result Note Refusal → List ℕ → Type 0
 Said a bs (Ok n) s = NoteTold a (first_note bs) s
-Said a bs (Err f) s = RefusedSaid bs (refusal_number f) s
+Said a bs (Err f) s = RefusedSaid bs f s
+
+-- s is what is said of the bytes
+pub record Tells (a : Account) (bs s : List ℕ) : Type 0 where
+  pub answer : Result Note Refusal
+  pub read : Reads KindRange Says bs answer
+  pub tells : Said a bs answer s
 
 -- the line for the bytes that stand at the place k, after `at` bytes of the feed
 pub record Line (a : Account) (k at : ℕ) (bs line : List ℕ) : Type 0 where
-  pub answer : Result Note Refusal
-  pub read : Reads KindRange Says bs answer
   pub said : List ℕ
-  pub tells : Said a bs answer said
+  pub tells : Tells a bs said
   pub text : line ≡ decimal k ++ (named (codes "at", at) ++ (codes " " ++ (said ++ codes "\n")))
 
 -- the line for a part of a feed

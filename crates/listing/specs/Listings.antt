@@ -3,7 +3,8 @@ use Rattle.std.specs.Prelude.{◌≡◌, ℕ, ◌+◌, ◌<◌, List, [], ◌++�
 use Rattle.feed.specs.declared.building.Building.{Building}
 use Rattle.feed.specs.declared.factor.FactorRow.{FactorRow}
 use Rattle.feed.specs.Frames.{Framed, OneNote}
-use Rattle.listing.specs.Lines.{named, Line}
+use Rattle.feed.specs.Words.{named}
+use Rattle.listing.specs.Lines.{Line}
 use Rattle.listing.specs.Openings.{Account, Begins, account_with}
 
 -- the line for what is left after the last note: nothing, or bytes of which it says why they are refused

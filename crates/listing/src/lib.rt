@@ -1,10 +1,10 @@
 // A feed in words: a line for each note with what it is booked at, and how the feed ends.
 #![tactic(auto)]
 
-mod fields;
 mod lines;
 pub mod opening;
-mod outcomes;
+mod outcome;
+mod statement;
 mod whole;
 
 pub use lines::line;

@@ -5,7 +5,7 @@ ghost use Rattle.listing.specs.Openings.{account_of};
 
 use crate::lines::line;
 use crate::opening::Opening;
-use feed::reader::{Next, Part, Reader};
+use feed::reader::{Part, Reader};
 use std::alloc::{AllocError, Global};
 
 // A line for each note of the feed, and a last one that says how the feed ends.
@@ -16,7 +16,7 @@ pub fn listing(heap: Global, feed: &[u8]) -> Result<String, AllocError>
     let opening = Opening::read(heap, feed)?;
     let mut text = String::new(heap);
     let mut reader = Reader::new(feed);
-    while let Next::Note(part) = reader.next() {
+    while let Ok(Some(part)) = reader.next() {
         let line = line(heap, &opening, &part)?;
         text.push_str(line.as_str())?;
     }

@@ -5,10 +5,6 @@ use listing::listing;
 use std::io::Read;
 
 fn main(rt: HostRuntime) -> anyhow::Result<()> {
-    run(&rt)
-}
-
-fn run(rt: &HostRuntime) -> anyhow::Result<()> {
     let heap = rt.alloc();
     let mut feed = Vec::new(heap);
     rt.stdin().read_to_end(&mut feed)?;

@@ -54,7 +54,7 @@ abbrev pub UpTo : ℕ → Conditions → Type 0
 UpTo k [] = Unit {0}
 UpTo k (c ∷ cs) = (c.0 ≤ k) × UpTo k cs
 
-broken_up_to : (k : ℕ) (cs : Conditions) → UpTo k cs → (n : ℕ) → Broken cs n → n ≤ k
+pub broken_up_to : (k : ℕ) (cs : Conditions) → UpTo k cs → (n : ℕ) → Broken cs n → n ≤ k
 broken_up_to k [] up n b = absurd b
 broken_up_to k (c ∷ cs) up n b = ⊎_elim (λ e. omega (arith, e.0, up.0)) (broken_up_to k cs up.1 n) b
 

@@ -51,3 +51,8 @@ Least cs n = Broken cs n × ((m : ℕ) → m < n → Broken cs m → ⊥)
 abbrev pub Decided : {X : Type 0} → Conditions → (X → Type 0) → Result X Refusal → Type 0
 Decided cs Q (Ok x) = Kept cs × Q x
 Decided cs Q (Err f) = Least cs (refusal_number f)
+
+-- where P holds, a call gives a value of which Q holds, and else the refusal f
+abbrev pub Judged : {X : Type 0} → Type 0 → Refusal → (X → Type 0) → Result X Refusal → Type 0
+Judged P f Q (Ok x) = P × Q x
+Judged P f Q (Err e) = (e ≡ f) × (P → ⊥)

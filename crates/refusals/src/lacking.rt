@@ -1,8 +1,22 @@
 // What is named where a source lacks a factor.
+ghost use Rattle.std.specs.Prelude.{Some};
+ghost use Rattle.refusals.specs.Texts.{lacking_said};
+
+use std::fmt;
 
 // The code that was asked for, and the code that is lacking: a source that answers by another code may lack that one.
 #[derive(Clone, Copy, Debug, PartialEq, Eq)]
 pub struct Lacking {
     pub asked: u32,
     pub lacking: u32,
+}
+
+impl fmt::Display for Lacking {
+    ghost output = { λ l. Some (lacking_said l.asked l.lacking) };
+
+    fn fmt<W: fmt::Write>(&self, f: &mut fmt::Formatter<W>) -> fmt::Result {
+        let asked = self.asked;
+        let lacking = self.lacking;
+        write!(f, "asked={asked} lacking={lacking}")
+    }
 }

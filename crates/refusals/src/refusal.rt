@@ -1,8 +1,11 @@
 // Why a call is refused.
-ghost use Rattle.std.specs.Prelude.{◌≡◌, [], ◌∷◌};
+ghost use Rattle.std.specs.Prelude.{◌≡◌, [], ◌∷◌, Some};
 ghost use Rattle.refusals.specs.Refusals.{refusal_number, refusal_codes};
+ghost use Rattle.refusals.specs.Texts.{refusal_said};
 
 use crate::lacking::Lacking;
+use std::error::Error;
+use std::fmt;
 
 // Each refusal has a number, and where several hold the smallest is told.
 #[derive(Clone, Copy, Debug, PartialEq, Eq)]
@@ -55,3 +58,17 @@ impl From<Lacking> for Refusal {
         Refusal::FactorLacking(lacking)
     }
 }
+
+impl fmt::Display for Refusal {
+    ghost output = { λ r. Some (refusal_said r) };
+
+    fn fmt<W: fmt::Write>(&self, f: &mut fmt::Formatter<W>) -> fmt::Result {
+        let number = self.number();
+        match self {
+            Refusal::FactorLacking(codes) => write!(f, "refused {number} {codes}"),
+            _ => write!(f, "refused {number}"),
+        }
+    }
+}
+
+impl Error for Refusal {}

@@ -1,14 +1,17 @@
 // A building read from bytes.
-ghost use Rattle.std.specs.Prelude.{◌≡◌, length, MatchOption};
+ghost use Rattle.std.specs.Prelude.{◌≡◌};
+ghost use Rattle.std.proofs.Common.{rules};
 ghost use Rattle.feed.specs.Buildings.{building_numbers, numbers_of, BuildingInRange, IsBuilding};
-ghost use Rattle.feed.specs.Frames.{Framed, first_note, note_kind};
-ghost use Rattle.feed.specs.Readings.{Reads, ranges};
-ghost use Rattle.refusals.specs.Refusals.{Decided};
+ghost use Rattle.feed.specs.Frames.{Framed, first_note};
+ghost use Rattle.feed.specs.Readings.{Reads};
+ghost use Rattle.refusals.specs.declared.refusal.Refusal.TheVariants.{OutOfRange};
+ghost use Rattle.refusals.specs.Refusals.{Judged};
 
 use crate::building::{Building, BuildingNumbers};
-use crate::frame::note_of_kind;
-use crate::little::{u16_at, u32_at};
-use codes::{BuildingType, Kind, Region};
+use crate::content::{Content, read};
+use crate::frame::sized;
+use crate::little::number_at;
+use codes::Kind;
 use refusals::Refusal;
 
 const AREA_MAX: u32 = 100_000_000;
@@ -25,63 +28,61 @@ impl Building {
         ensures value { Reads (λ k. k ≡ 1) IsBuilding bytes.now result }
         ensures alone { Framed bytes.now → Reads (λ k. k ≡ 1) IsBuilding (first_note bytes.now) result }
     {
-        Building::from_note(note_of_kind(bytes, Kind::Building)?)
+        read(bytes)
     }
+}
 
-    pub(crate) fn from_note(note: &[u8]) -> Result<Building, Refusal>
-        requires kind { note_kind note.now ≡ 1 }
-        requires length { length note.now ≡ 18 }
-        ensures { Decided (ranges note.now) (IsBuilding note.now) result }
-    {
-        match BuildingNumbers::from_note(note).building() {
-            Some(building) => Ok(building),
-            None => Err(Refusal::OutOfRange),
+impl Content for Building {
+    ghost Wanted = { λ k. k ≡ 1 };
+
+    ghost Says = { IsBuilding };
+
+    ghost known = { Prim.search rules };
+
+    fn of_note(kind: Kind, note: &[u8]) -> Result<Building, Refusal> {
+        match kind {
+            Kind::Building => BuildingNumbers::from(sized(note)?).try_into(),
+            _ => Err(Refusal::UnwantedKind),
         }
     }
 }
 
-impl BuildingNumbers {
-    fn from_note(note: &[u8]) -> BuildingNumbers
-        requires { length note.now ≡ 18 }
-        ensures { result ≡ building_numbers note.now }
-    {
+impl From<&[u8; 18]> for BuildingNumbers {
+    ghost from_gives = { λ note r. r ≡ building_numbers note.now };
+
+    fn from(note: &[u8; 18]) -> BuildingNumbers {
         BuildingNumbers {
-            area: u32_at(note, 4),
-            life: u16_at(note, 8),
-            region: u16_at(note, 10),
-            sun: u16_at(note, 12),
-            building_type: u16_at(note, 14),
-            reference: u16_at(note, 16),
+            area: number_at(note, 4),
+            life: number_at(note, 8),
+            region: number_at(note, 10),
+            sun: number_at(note, 12),
+            building_type: number_at(note, 14),
+            reference: number_at(note, 16),
         }
     }
+}
 
-    // The building of these numbers, if each is in range.
-    pub fn building(self) -> Option<Building>
-        ensures { MatchOption result (BuildingInRange self → ⊥) (λ b. BuildingInRange self × (numbers_of b ≡ self)) }
-    {
-        let region = Region::from_number(self.region)?;
-        let building_type = BuildingType::from_number(self.building_type)?;
-        let area = self.area;
-        let life = self.life;
-        let sun = self.sun;
-        let reference = self.reference;
-        if area < 1
-            || area > AREA_MAX
-            || life < 1
-            || life > LIFE_MAX
-            || sun < 1
-            || sun > SUN_MAX
-            || reference > REFERENCE_MAX
-        {
-            return None;
+// The building of these numbers, if each is in range.
+impl TryFrom<BuildingNumbers> for Building {
+    type Error = Refusal;
+
+    ghost try_from_gives = { λ n r. Judged (BuildingInRange n) OutOfRange (λ b. numbers_of b ≡ n) r };
+
+    fn try_from(n: BuildingNumbers) -> Result<Building, Refusal> {
+        let fits = (1..=AREA_MAX).contains(&n.area)
+            && (1..=LIFE_MAX).contains(&n.life)
+            && (1..=SUN_MAX).contains(&n.sun)
+            && n.reference <= REFERENCE_MAX;
+        if !fits {
+            return Err(Refusal::OutOfRange);
         }
-        Some(Building {
-            area,
-            life,
-            region,
-            sun,
-            building_type,
-            reference,
+        Ok(Building {
+            area: n.area,
+            life: n.life,
+            region: n.region.try_into()?,
+            sun: n.sun,
+            building_type: n.building_type.try_into()?,
+            reference: n.reference,
         })
     }
 }

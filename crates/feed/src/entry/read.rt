@@ -1,57 +1,46 @@
 // The fields of what is sent into a sheet.
-ghost use Rattle.std.specs.Prelude.{◌≡◌, ◌≤◌, length};
-ghost use Rattle.feed.specs.Entries.{entry_head, counted, measured, withdrawal};
+ghost use Rattle.std.specs.Prelude.{◌≡◌};
+ghost use Rattle.feed.specs.Entries.{entry_head, withdrawal};
+ghost use Rattle.feed.specs.Fields.{field};
 
-use crate::entry::{CountedEntry, EntryHead, MeasuredEntry, Withdrawal};
-use crate::little::{u16_at, u32_at, u64_at};
+use crate::entry::{EntryHead, SentEntry, SentQuantity, Withdrawal};
+use crate::little::number_at;
 
-impl EntryHead {
-    fn from_note(note: &[u8]) -> EntryHead
-        requires { 20 ≤ length note.now }
-        ensures { result ≡ entry_head note.now }
-    {
+impl From<&[u8; 28]> for EntryHead {
+    ghost from_gives = { λ note r. r ≡ entry_head note.now };
+
+    fn from(note: &[u8; 28]) -> EntryHead {
         EntryHead {
-            number: u32_at(note, 4),
-            revision: u32_at(note, 8),
-            row: u16_at(note, 12),
-            span: u16_at(note, 14),
-            code: u32_at(note, 16),
+            number: number_at(note, 4),
+            revision: number_at(note, 8),
+            row: number_at(note, 12),
+            span: number_at(note, 14),
+            code: number_at(note, 16),
         }
     }
 }
 
-impl CountedEntry {
-    pub(crate) fn from_note(note: &[u8]) -> CountedEntry
-        requires { length note.now ≡ 28 }
-        ensures { result ≡ counted note.now }
+impl SentEntry {
+    // The entry of a note, its last field being a quantity of this form.
+    pub(crate) fn of_form<F: FnOnce(u64) -> SentQuantity>(form: F, note: &[u8; 28]) -> SentEntry
+        requires { F.pre form (field note.now 20 8) }
+        ensures head { result.head ≡ entry_head note.now }
+        ensures quantity { F.post form (field note.now 20 8) result.quantity }
     {
-        CountedEntry {
-            head: EntryHead::from_note(note),
-            quantity: u64_at(note, 20),
+        SentEntry {
+            head: EntryHead::from(note),
+            quantity: form(number_at(note, 20)),
         }
     }
 }
 
-impl MeasuredEntry {
-    pub(crate) fn from_note(note: &[u8]) -> MeasuredEntry
-        requires { length note.now ≡ 28 }
-        ensures { result ≡ measured note.now }
-    {
-        MeasuredEntry {
-            head: EntryHead::from_note(note),
-            bits: u64_at(note, 20),
-        }
-    }
-}
+impl From<&[u8; 12]> for Withdrawal {
+    ghost from_gives = { λ note r. r ≡ withdrawal note.now };
 
-impl Withdrawal {
-    pub(crate) fn from_note(note: &[u8]) -> Withdrawal
-        requires { length note.now ≡ 12 }
-        ensures { result ≡ withdrawal note.now }
-    {
+    fn from(note: &[u8; 12]) -> Withdrawal {
         Withdrawal {
-            number: u32_at(note, 4),
-            revision: u32_at(note, 8),
+            number: number_at(note, 4),
+            revision: number_at(note, 8),
         }
     }
 }

@@ -1,15 +1,18 @@
 // A factor row read from bytes, and the factor that it gives.
-ghost use Rattle.std.specs.Prelude.{◌≡◌, length, MatchOption};
+ghost use Rattle.std.specs.Prelude.{◌≡◌};
+ghost use Rattle.std.proofs.Common.{rules};
 ghost use Rattle.codes.specs.Codes.{unit_number};
-ghost use Rattle.feed.specs.Factors.{FactorInRange, IsFactorRow};
-ghost use Rattle.feed.specs.Frames.{Framed, first_note, note_kind};
-ghost use Rattle.feed.specs.Readings.{Reads, ranges};
-ghost use Rattle.refusals.specs.Refusals.{Decided};
+ghost use Rattle.feed.specs.Factors.{factor_row, FactorInRange, IsFactorRow};
+ghost use Rattle.feed.specs.Frames.{Framed, first_note};
+ghost use Rattle.feed.specs.Readings.{Reads};
+ghost use Rattle.refusals.specs.declared.refusal.Refusal.TheVariants.{OutOfRange};
+ghost use Rattle.refusals.specs.Refusals.{Judged};
 
+use crate::content::{Content, read};
 use crate::factor::{Factor, FactorRow};
-use crate::frame::note_of_kind;
-use crate::little::{u16_at, u32_at};
-use codes::{FactorUnit, Kind};
+use crate::frame::sized;
+use crate::little::number_at;
+use codes::Kind;
 use refusals::Refusal;
 
 const AMOUNT_MAX: u32 = 1_000_000_000;
@@ -20,34 +23,54 @@ impl FactorRow {
         ensures value { Reads (λ k. k ≡ 2) IsFactorRow bytes.now result }
         ensures alone { Framed bytes.now → Reads (λ k. k ≡ 2) IsFactorRow (first_note bytes.now) result }
     {
-        FactorRow::from_note(note_of_kind(bytes, Kind::Factor)?)
+        read(bytes)
     }
+}
 
-    pub(crate) fn from_note(note: &[u8]) -> Result<FactorRow, Refusal>
-        requires kind { note_kind note.now ≡ 2 }
-        requires length { length note.now ≡ 14 }
-        ensures { Decided (ranges note.now) (IsFactorRow note.now) result }
-    {
-        let row = FactorRow {
-            code: u32_at(note, 4),
-            amount: u32_at(note, 8),
-            unit: u16_at(note, 12),
-        };
-        match row.factor() {
-            Some(_) => Ok(row),
-            None => Err(Refusal::OutOfRange),
+impl Content for FactorRow {
+    ghost Wanted = { λ k. k ≡ 2 };
+
+    ghost Says = { IsFactorRow };
+
+    ghost known = { Prim.search rules };
+
+    fn of_note(kind: Kind, note: &[u8]) -> Result<FactorRow, Refusal> {
+        match kind {
+            Kind::Factor => {
+                let row = FactorRow::from(sized(note)?);
+                Factor::try_from(row)?;
+                Ok(row)
+            }
+            _ => Err(Refusal::UnwantedKind),
         }
     }
+}
 
-    // The factor of this row, if its amount and its unit are in range.
-    pub fn factor(self) -> Option<Factor>
-        ensures { MatchOption result (FactorInRange self → ⊥) (λ f. FactorInRange self × (f.amount ≡ self.amount) × (unit_number f.unit ≡ self.unit)) }
-    {
-        let unit = FactorUnit::from_number(self.unit)?;
-        let amount = self.amount;
-        if amount > AMOUNT_MAX {
-            return None;
+impl From<&[u8; 14]> for FactorRow {
+    ghost from_gives = { λ note r. r ≡ factor_row note.now };
+
+    fn from(note: &[u8; 14]) -> FactorRow {
+        FactorRow {
+            code: number_at(note, 4),
+            amount: number_at(note, 8),
+            unit: number_at(note, 12),
         }
-        Some(Factor { amount, unit })
+    }
+}
+
+// The factor of a row, if its amount and its unit are in range.
+impl TryFrom<FactorRow> for Factor {
+    type Error = Refusal;
+
+    ghost try_from_gives = { λ row r. Judged (FactorInRange row) OutOfRange (λ f. (f.amount ≡ row.amount) × (unit_number f.unit ≡ row.unit)) r };
+
+    fn try_from(row: FactorRow) -> Result<Factor, Refusal> {
+        if row.amount > AMOUNT_MAX {
+            return Err(Refusal::OutOfRange);
+        }
+        Ok(Factor {
+            amount: row.amount,
+            unit: row.unit.try_into()?,
+        })
     }
 }

@@ -1,9 +1,10 @@
 // What a reader answers.
 ghost use Rattle.std.specs.Prelude.{ℕ, List, ◌∷◌};
-ghost use Rattle.feed.specs.Feeds.{Opened, Answered, Run, Lawful, left_of, IsLeft};
+ghost use Rattle.feed.specs.Feeds.{Opened, Answer, Answered, Run, Lawful, left_of, IsLeft};
 
 use crate::frame::first_note;
-use crate::reader::{Next, Part, Reader};
+use crate::reader::{Part, Reader};
+use refusals::Refusal;
 
 impl<'a> Reader<'a> {
     pub fn new(feed: &'a [u8]) -> Reader<'a>
@@ -16,18 +17,15 @@ impl<'a> Reader<'a> {
         }
     }
 
-    // The next note. Where there is none, the reader stays, and answers the same again.
-    pub fn next(&mut self) -> Next<'a>
+    // The next note, or none where the feed has ended. Where there is none or it is refused, the reader stays, and answers the same again.
+    pub fn next(&mut self) -> Result<Option<Part<'a>>, Refusal>
         ensures value { Answered self.old result self.new }
-        ensures law { (feed : List ℕ) (before : List Next) → Run feed before self.old → Lawful feed (result ∷ before) (left_of self.new) }
+        ensures law { (feed : List ℕ) (before : List Answer) → Run feed before self.old → Lawful feed (result ∷ before) (left_of self.new) }
     {
         if self.start == self.feed.len() {
-            return Next::End;
+            return Ok(None);
         }
-        let bytes = match first_note(&self.feed[self.start..]) {
-            Ok(bytes) => bytes,
-            Err(refusal) => return Next::Refused(refusal),
-        };
+        let bytes = first_note(&self.feed[self.start..])?;
         let part = Part {
             place: self.handed + 1,
             start: self.start,
@@ -35,7 +33,7 @@ impl<'a> Reader<'a> {
         };
         self.start += bytes.len();
         self.handed += 1;
-        Next::Note(part)
+        Ok(Some(part))
     }
 
     // What is not handed out yet, at the place of the next note.

@@ -7,7 +7,7 @@ use codes::Kind;
 use feed::building::Building;
 use feed::factor::FactorRow;
 use feed::frame::Head;
-use feed::reader::{Next, Reader};
+use feed::reader::Reader;
 use std::alloc::{AllocError, Global};
 
 impl Opening {
@@ -23,7 +23,7 @@ impl Opening {
         };
         // Past the first note, which is the building.
         let mut reader = Reader::new(feed);
-        reader.next();
+        let _ = reader.next();
         let rows = rows(heap, reader.left().bytes)?;
         Ok(Opening {
             building: Some(building),
@@ -38,7 +38,7 @@ fn rows(heap: Global, bytes: &[u8]) -> Result<Vec<FactorRow>, AllocError>
 {
     let mut rows = Vec::new(heap);
     let mut reader = Reader::new(bytes);
-    while let Next::Note(part) = reader.next() {
+    while let Ok(Some(part)) = reader.next() {
         if !is_factor_row(part.bytes) {
             return Ok(rows);
         }
@@ -53,8 +53,5 @@ fn rows(heap: Global, bytes: &[u8]) -> Result<Vec<FactorRow>, AllocError>
 fn is_factor_row(bytes: &[u8]) -> bool
     ensures { MatchBool result (RowFirst bytes.now) (RowFirst bytes.now → ⊥) }
 {
-    match Head::read(bytes) {
-        Ok(head) => head.kind == Kind::Factor.number(),
-        Err(_) => false,
-    }
+    Head::read(bytes).is_ok_and(|head| head.kind == u16::from(Kind::Factor))
 }

@@ -1,27 +1,28 @@
-use Rattle.std.proofs.Common.{length, ap, ◌∙◌, arith}
+use Rattle.std.proofs.Common.{length, ap, ◌∙◌, arith, rules}
 use Rattle.feed.proofs.Running.{hands_note}
 use Rattle.listing.specs.Listings.{Listing}
 use Rattle.listing.proofs.Listed.{none_yet, one_more, no_more}
 use Rattle.listing.proofs.Only.{listing_only}
 use Rattle.listing.proofs.whole.listing.Goals as goal
+use Rattle.listing.proofs.whole.listing.Goals.{in_default, in_default-2}
 
 pub loop-part-init : goal.loop-part-init
 loop-part-init c = none_yet _ _ _ _ c.new-reader.ensures c.new-text.ensures.bytes
 
 pub loop-part-smaller : goal.loop-part-smaller
 loop-part-smaller c =
-    let step = c.in-Note.ensures.value in
+    let step = rw c.in-Ok-Some.field-0-is at c.in-Ok-Some.ensures.value in
     let note = hands_note _ _ _ step in
     let whole = ap length (step.over ∙ c.loop-part.invariant.same) in
     omega (arith, c.next.new.self.within, step.bytes, note.head)
 
 pub loop-part-preserved : goal.loop-part-preserved
 loop-part-preserved c =
-    one_more _ _ _ _ c.loop-part.invariant c.in-Note.part c.next.new.self _ _ _ c.in-Note.ensures.value c.in_ok-line.ensures.value c.in_ok-push_str.ensures.bytes c.as_str.ensures.value
+    one_more _ _ _ _ c.loop-part.invariant c.in-Ok-Some.part c.next.new.self _ _ _ (rw c.in-Ok-Some.field-0-is at c.in-Ok-Some.ensures.value) c.in_ok-line.ensures.value c.in_ok-push_str.ensures.bytes c.as_str.ensures.value
 
 pub returns : goal.returns
 returns c =
     let value =
-    no_more _ _ _ _ c.loop-part.invariant c.next.result c.next.new.self c.left.result _ _ _ c.in_default.not-Note c.next.ensures.value c.left.ensures c.in_ok-last.ensures c.in_ok-push_str-2.ensures.bytes c.as_str-2.ensures.value in
+    no_more _ _ _ _ c.loop-part.invariant c.next.result c.next.new.self c.left.result _ _ _ (elim c.match-next.branch [ in_default w ↦ search rules | in_default-2 w ↦ search rules ]) c.next.ensures.value c.left.ensures c.in_ok-last.ensures c.in_ok-push_str-2.ensures.bytes c.as_str-2.ensures.value in
     let listing : Listing c.args.feed.now _ = record { building = _; rows = _; begins = c.in_ok-opening.ensures; lists = value } in
     record { value = listing; only = λ other more. listing_only _ _ _ more listing }

@@ -1,4 +1,4 @@
-use Rattle.std.proofs.Common.{◌≡◌, ℕ, ◌^◌, pos, ◌*ℤ◌, nat_abs, sym, ap, ◌∙◌, subst, arith}
+use Rattle.std.proofs.Common.{◌≡◌, ℕ, ◌^◌, pos, ◌*ℤ◌, nat_abs, sym, refl, ap, ◌∙◌, subst, arith}
 use Rattle.std.proofs.lemmas.Nat.{pow_pos}
 use Rattle.std.proofs.lemmas.Int.{ints}
 use Rattle.exact.specs.Rounding.{over, Divides, nearest, WithinHalf}
@@ -14,13 +14,16 @@ pub returns-then-is_nan : goal.returns-then-is_nan
 returns-then-is_nan c =
     let x = c.in-Measured.x in
     record {
-      value = λ r.
-          let r' = subst QuantityInRange c.in-Measured.is r in
-          elim c.then-is_nan.branch [
-            | then-is_nan-via-then-is_nan w ↦ nan_out x (sym w.if-is_nan.ensures.value) r'
-            | then-is_nan-via-else-is_nan+then-x w ↦ out_below x w.if-x.true r'
-            | then-is_nan-via-else-is_nan+else-x+then-x-2 w ↦ out_above x w.if-x-2.true r'
-          ];
+      value = (
+        refl,
+        λ r.
+            let r' = subst QuantityInRange c.in-Measured.is r in
+            elim c.then-is_nan.branch [
+              | then-is_nan-via-then-is_nan w ↦ nan_out x (sym w.if-is_nan.ensures.value) r'
+              | then-is_nan-via-else-is_nan+then-x w ↦ out_below x w.if-x.true r'
+              | then-is_nan-via-else-is_nan+else-x+then-x-2 w ↦ out_above x w.if-x-2.true r'
+            ],
+      );
       near = tt;
     }
 

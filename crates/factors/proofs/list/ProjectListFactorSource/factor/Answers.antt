@@ -14,12 +14,12 @@ row_at rows i = get_or rows i (record { code = 0; amount = 0; unit = 0 })
 at : (rows : List FactorRow) (i code : ℕ) → i < length rows → listed (drop i rows) code ≡ listed (row_at rows i ∷ drop (i + 1) rows) code
 at rows i code h = at_drop_more (λ rs. listed rs code) rows i (record { code = 0; amount = 0; unit = 0 }) h
 
-pub returns-in-Some : goal.returns-in-Some
-returns-in-Some c =
+pub returns-in-Ok : goal.returns-in-Ok
+returns-in-Ok c =
     let rows = c.args.self.now.rows.now in
     let i = c.loop-row.row-index in
-    let found = c.in-Some.ensures in
-    (λ k. has (found.1 k) (found.2 k)) ∙ answers (row_at rows i) (drop (i + 1) rows) c.args.code c.if-row-code.true found.0 ∙ sym (at rows i c.args.code c.loop-row-test.true) ∙ c.loop-row.invariant
+    let found = c.in-Ok.ensures in
+    (λ k. has (found.1.0 k) (found.1.1 k)) ∙ answers (row_at rows i) (drop (i + 1) rows) c.args.code c.if-row-code.true found.0 ∙ sym (at rows i c.args.code c.loop-row-test.true) ∙ c.loop-row.invariant
 
 pub loop-row-preserved : goal.loop-row-preserved
 loop-row-preserved c =
@@ -27,7 +27,7 @@ loop-row-preserved c =
     let i = c.loop-row.row-index in
     let next = sym (at rows i c.args.code c.loop-row-test.true) ∙ c.loop-row.invariant in
     elim c.if-row-code.branch [
-      | then-row-code+in_default w ↦ sym (passes_range (row_at rows i) (drop (i + 1) rows) c.args.code w.in_default.ensures) ∙ next
+      | then-row-code+in_default w ↦ sym (passes_range (row_at rows i) (drop (i + 1) rows) c.args.code w.in_default.ensures.1) ∙ next
       | else-row-code w ↦ sym (passes_code (row_at rows i) (drop (i + 1) rows) c.args.code w.if-row-code.false) ∙ next
     ]
 

@@ -8,5 +8,5 @@ found c = let finds = c.in-Some.ensures.lookup in omega (arith, finds.1, warming
 pub overflow_mul-result : goal.overflow_mul-result
 overflow_mul-result c = let l = found c in search rules
 
-pub invariant_of-result-in-Some : goal.invariant_of-result-in-Some
-invariant_of-result-in-Some c = let l = found c in search rules
+pub invariant_of-result-2 : goal.invariant_of-result-2
+invariant_of-result-2 c = let l = found c in search rules

@@ -1,0 +1,84 @@
+// Notes in words: a kind, and its fields by name.
+ghost use Rattle.std.specs.Prelude.{Some};
+ghost use Rattle.feed.specs.Buildings.{numbers_of};
+ghost use Rattle.feed.specs.Words.{said_of, building_fields, factor_fields, entry_kind, entry_fields, withdrawal_fields, words};
+
+use crate::building::Building;
+use crate::entry::{SentEntry, SentQuantity, Withdrawal};
+use crate::factor::FactorRow;
+use crate::note::Note;
+use std::fmt;
+
+impl fmt::Display for Building {
+    ghost output = { λ b. Some (said_of 1 (building_fields (numbers_of b))) };
+
+    fn fmt<W: fmt::Write>(&self, f: &mut fmt::Formatter<W>) -> fmt::Result {
+        let area = self.area;
+        let life = self.life;
+        let region = u16::from(self.region);
+        let sun = self.sun;
+        let building_type = u16::from(self.building_type);
+        let reference = self.reference;
+        write!(
+            f,
+            "building area={area} life={life} region={region} sun={sun} type={building_type} reference={reference}"
+        )
+    }
+}
+
+impl fmt::Display for FactorRow {
+    ghost output = { λ row. Some (said_of 2 (factor_fields row)) };
+
+    fn fmt<W: fmt::Write>(&self, f: &mut fmt::Formatter<W>) -> fmt::Result {
+        write!(
+            f,
+            "factor code={} amount={} unit={}",
+            self.code, self.amount, self.unit
+        )
+    }
+}
+
+impl fmt::Display for SentEntry {
+    ghost output = { λ e. Some (said_of (entry_kind e.quantity) (entry_fields e)) };
+
+    fn fmt<W: fmt::Write>(&self, f: &mut fmt::Formatter<W>) -> fmt::Result {
+        let number = self.head.number;
+        let revision = self.head.revision;
+        let row = self.head.row;
+        let span = self.head.span;
+        let code = self.head.code;
+        let (word, name, quantity) = match self.quantity {
+            SentQuantity::Counted(thousandths) => ("entry", "quantity", thousandths),
+            SentQuantity::Measured(bits) => ("measured", "bits", bits),
+        };
+        write!(
+            f,
+            "{word} number={number} revision={revision} row={row} span={span} code={code} {name}={quantity}"
+        )
+    }
+}
+
+impl fmt::Display for Withdrawal {
+    ghost output = { λ w. Some (said_of 5 (withdrawal_fields w)) };
+
+    fn fmt<W: fmt::Write>(&self, f: &mut fmt::Formatter<W>) -> fmt::Result {
+        write!(
+            f,
+            "withdrawal number={} revision={}",
+            self.number, self.revision
+        )
+    }
+}
+
+impl fmt::Display for Note {
+    ghost output = { λ note. Some (words note) };
+
+    fn fmt<W: fmt::Write>(&self, f: &mut fmt::Formatter<W>) -> fmt::Result {
+        match self {
+            Note::Building(building) => write!(f, "{building}"),
+            Note::Factor(row) => write!(f, "{row}"),
+            Note::Entry(entry) => write!(f, "{entry}"),
+            Note::Withdrawal(withdrawal) => write!(f, "{withdrawal}"),
+        }
+    }
+}
