@@ -4,7 +4,7 @@ ghost use Rattle.feed.specs.Buildings.{numbers_of};
 ghost use Rattle.feed.specs.Words.{said_of, building_fields, factor_fields, entry_kind, entry_fields, withdrawal_fields, words};
 
 use crate::building::Building;
-use crate::entry::{SentEntry, SentQuantity, Withdrawal};
+use crate::entry::{EntryHead, SentEntry, SentQuantity, Withdrawal};
 use crate::factor::FactorRow;
 use crate::note::Note;
 use std::fmt;
@@ -42,11 +42,13 @@ impl fmt::Display for SentEntry {
     ghost output = { λ e. Some (said_of (entry_kind e.quantity) (entry_fields e)) };
 
     fn fmt<W: fmt::Write>(&self, f: &mut fmt::Formatter<W>) -> fmt::Result {
-        let number = self.head.number;
-        let revision = self.head.revision;
-        let row = self.head.row;
-        let span = self.head.span;
-        let code = self.head.code;
+        let EntryHead {
+            number,
+            revision,
+            row,
+            span,
+            code,
+        } = self.head;
         let (word, name, quantity) = match self.quantity {
             SentQuantity::Counted(thousandths) => ("entry", "quantity", thousandths),
             SentQuantity::Measured(bits) => ("measured", "bits", bits),

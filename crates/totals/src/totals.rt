@@ -5,7 +5,7 @@ ghost use Rattle.std.specs.Prelude.{◌≤◌, sum_by, sum, unsigned_abs};
 pub const ROWS: usize = 22;
 
 // Signed grams and how many entries they are of, the first row first. Every such value keeps what 512 entries of the largest weight come to.
-#[derive(Clone, Copy)]
+#[derive(Clone, Copy, Debug, PartialEq, Eq)]
 pub struct Totals {
     pub grams: [i64; 22],
     pub counts: [u16; 22],
