@@ -42,8 +42,8 @@ impl Reckoning {
             Reckoning::Once if span == 0 => (1, 1),
             Reckoning::Hauled if span <= FARTHEST => (span, 1),
             Reckoning::Yearly if span == 0 => (years, 1),
-            Reckoning::Renewed if span >= 1 && span <= MOST_YEARS => (years / span, 1),
-            Reckoning::Refilled if span >= 1 && span <= MOST_YEARS => (years, span),
+            Reckoning::Renewed if (1..=MOST_YEARS).contains(&span) => (years / span, 1),
+            Reckoning::Refilled if (1..=MOST_YEARS).contains(&span) => (years, span),
             _ => return Err(Refusal::UnfitSpan),
         };
         Ok(Terms {
@@ -55,13 +55,10 @@ impl Reckoning {
     pub fn unit_fits(self, unit: FactorUnit) -> bool
         ensures { result ≡ unit_fits self (unit_number unit) }
     {
-        match (self, unit) {
-            (Reckoning::Hauled, FactorUnit::TonneKilometre) => true,
-            (Reckoning::Hauled, _) => false,
-            (Reckoning::Refilled, FactorUnit::Kilogram) => true,
-            (Reckoning::Refilled, _) => false,
-            (_, FactorUnit::TonneKilometre) => false,
-            (_, _) => true,
+        match self {
+            Reckoning::Hauled => unit == FactorUnit::TonneKilometre,
+            Reckoning::Refilled => unit == FactorUnit::Kilogram,
+            _ => unit != FactorUnit::TonneKilometre,
         }
     }
 }

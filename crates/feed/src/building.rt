@@ -24,7 +24,7 @@ pub struct Building {
     ghost reference_within: { ReferenceRange reference },
 }
 
-// The numbers of a building as they came: any of them may be out of range.
+// The numbers of a building as they came: any of them may be out of range or have no name.
 #[derive(Clone, Copy, Debug, PartialEq, Eq)]
 pub struct BuildingNumbers {
     pub area: u32,

@@ -10,6 +10,7 @@ use crate::frame::{first_note, kind_of};
 use codes::Kind;
 use refusals::Refusal;
 
+// What notes of some kinds are read as.
 pub(crate) trait Content: Sized {
     // the kinds that are read
     ghost Wanted: { ℕ → Type 0 };
@@ -17,6 +18,7 @@ pub(crate) trait Content: Sized {
     // which value a note gives
     ghost Says: { List ℕ → Self → Type 0 };
 
+    // A note's value, where its kind is wanted, its length is its kind's, and its fields are in range.
     fn of_note(kind: Kind, note: &[u8]) -> Result<Self, Refusal>
         requires { note_kind note.now ≡ kind_number kind }
         ensures { Decided (shape Wanted note.now ++ ranges note.now) (Says note.now) result };
@@ -25,6 +27,7 @@ pub(crate) trait Content: Sized {
     ghost known: { (k : ℕ) → Wanted k → KindRange k };
 }
 
+// The first note of the bytes. Every reading of a note goes through here.
 #[tactic(auto, using(crate::proofs::Reading::headed, crate::proofs::Reading::reads_alone))]
 pub(crate) fn read<T: Content>(bytes: &[u8]) -> Result<T, Refusal>
     ensures value { Reads T.Wanted T.Says bytes.now result }

@@ -7,6 +7,7 @@ mod read;
 pub struct EntryHead {
     pub number: u32,
     pub revision: u32,
+    // a number, as it may be of no row that there is
     pub row: u16,
     pub span: u16,
     pub code: u32,

@@ -14,7 +14,7 @@ pub struct Factor {
     ghost amount_within: { AmountRange amount },
 }
 
-// A row of a list of factors as it came: its amount and its unit may be out of range.
+// A row of a list of factors as it came: its amount may be out of range, and its unit a number that has no name.
 #[derive(Clone, Copy, Debug, PartialEq, Eq)]
 pub struct FactorRow {
     pub code: u32,

@@ -44,6 +44,7 @@ pub(crate) fn sized<const N: usize>(note: &[u8]) -> Result<&[u8; N], Refusal>
 #[derive(Clone, Copy, Debug, PartialEq, Eq)]
 pub struct Head {
     pub length: usize,
+    // a number, as it may be of no kind that there is
     pub kind: u16,
 }
 

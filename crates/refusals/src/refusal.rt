@@ -33,6 +33,7 @@ pub enum Refusal {
 }
 
 impl Refusal {
+    // No `From`: a lack's number leaves out its codes.
     pub fn number(self) -> u8
         ensures { result ≡ refusal_number self }
     {

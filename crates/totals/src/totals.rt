@@ -5,6 +5,7 @@ ghost use Rattle.std.specs.Prelude.{◌≤◌, sum_by, sum, unsigned_abs};
 pub const ROWS: usize = 22;
 
 // Signed grams and how many entries they are of, the first row first. Every such value keeps what 512 entries of the largest weight come to.
+// Two arrays beside one another, since the project asks for the grams as one array of numbers.
 #[derive(Clone, Copy, Debug, PartialEq, Eq)]
 pub struct Totals {
     pub grams: [i64; 22],
