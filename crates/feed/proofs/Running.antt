@@ -104,3 +104,7 @@ module _ (feed : List ℕ) where
   lawful answers r run =
       let all = sofar answers r run in
       record { whole = all.whole; notes = all.notes; places = all.places; again = all.again; ends = all.ends }
+
+-- one call more of a reader
+pub lawful_call : (r : Reader) (a : Answer) (t : Reader) → Answered r a t → (feed : List ℕ) (before : List Answer) → Run feed before r → Lawful feed (a ∷ before) (left_of t)
+lawful_call r a t step feed before run = lawful feed (a ∷ before) t (called run step)

@@ -18,22 +18,19 @@ impl<'a> Reader<'a> {
     }
 
     // The next note, or none where the feed has ended. Where there is none or it is refused, the reader stays, and answers the same again.
+    #[tactic(auto, using(crate::proofs::Running::lawful_call))]
     pub fn next(&mut self) -> Result<Option<Part<'a>>, Refusal>
         ensures value { Answered self.old result self.new }
         ensures law { (feed : List ℕ) (before : List Answer) → Run feed before self.old → Lawful feed (result ∷ before) (left_of self.new) }
     {
-        if self.start == self.feed.len() {
+        let left = self.left();
+        if left.bytes.is_empty() {
             return Ok(None);
         }
-        let bytes = first_note(&self.feed[self.start..])?;
-        let part = Part {
-            place: self.handed + 1,
-            start: self.start,
-            bytes,
-        };
+        let bytes = first_note(left.bytes)?;
         self.start += bytes.len();
         self.handed += 1;
-        Ok(Some(part))
+        Ok(Some(Part { bytes, ..left }))
     }
 
     // What is not handed out yet, at the place of the next note.
