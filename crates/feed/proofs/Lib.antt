@@ -1,3 +1,4 @@
+pub mod Bytes
 pub mod Framing
 pub mod Reading
 pub mod Running

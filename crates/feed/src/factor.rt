@@ -1,9 +1,14 @@
 // A factor: how much carbon one unit of something stands for.
+ghost use Rattle.std.specs.Prelude.{◌≡◌};
 ghost use Rattle.codes.specs.Ranges.{AmountRange};
 
-use codes::FactorUnit;
+use crate::content::{Content, read};
+use crate::frame::of_length;
+use crate::little::number_at;
+use codes::{FactorUnit, Kind};
+use refusals::Refusal;
 
-mod read;
+const AMOUNT_MAX: u32 = 1_000_000_000;
 
 // Every factor that exists keeps its range.
 #[derive(Clone, Copy, Debug, PartialEq, Eq)]
@@ -20,4 +25,72 @@ pub struct FactorRow {
     pub code: u32,
     pub amount: u32,
     pub unit: u16,
+}
+
+impl FactorRow {
+    ghost use Rattle.feed.specs.Factors.{factor_row, IsFactorRow};
+    ghost use Rattle.feed.specs.Frames.{Framed, first_note};
+    ghost use Rattle.feed.specs.Readings.{Reads};
+
+    // The factor row that the bytes begin with. One that is read is in range.
+    pub fn read(bytes: &[u8]) -> Result<FactorRow, Refusal>
+        ensures value { Reads (λ k. k ≡ 2) IsFactorRow bytes.now result }
+        ensures alone { Framed bytes.now → Reads (λ k. k ≡ 2) IsFactorRow (first_note bytes.now) result }
+    {
+        read(bytes)
+    }
+
+    fn from_note(note: &[u8; 14]) -> FactorRow
+        ensures { result ≡ factor_row note.now }
+    {
+        FactorRow {
+            code: number_at(note, 4),
+            amount: number_at(note, 8),
+            unit: number_at(note, 12),
+        }
+    }
+}
+
+impl Content for FactorRow {
+    ghost use Rattle.std.proofs.Common.{rules};
+    ghost use Rattle.feed.specs.Factors.{IsFactorRow};
+
+    ghost Wanted = { λ k. k ≡ 2 };
+
+    ghost Says = { IsFactorRow };
+
+    ghost known = { Prim.search rules };
+
+    fn of_note(kind: Kind, note: &[u8]) -> Result<FactorRow, Refusal> {
+        match kind {
+            Kind::Factor => {
+                let row = FactorRow::from_note(of_length(note)?);
+                Factor::try_from(row)?;
+                Ok(row)
+            }
+            _ => Err(Refusal::UnwantedKind),
+        }
+    }
+}
+
+// The factor of a row, if its amount and its unit are in range.
+impl TryFrom<FactorRow> for Factor {
+    ghost use Rattle.codes.specs.Codes.{unit_number};
+    ghost use Rattle.feed.specs.Factors.{FactorInRange};
+    ghost use Rattle.refusals.specs.declared.refusal.Refusal.TheVariants.{OutOfRange};
+    ghost use Rattle.refusals.specs.Refusals.{Judged};
+
+    type Error = Refusal;
+
+    ghost try_from_gives = { λ row r. Judged (FactorInRange row) OutOfRange (λ f. (f.amount ≡ row.amount) × (unit_number f.unit ≡ row.unit)) r };
+
+    fn try_from(row: FactorRow) -> Result<Factor, Refusal> {
+        if row.amount > AMOUNT_MAX {
+            return Err(Refusal::OutOfRange);
+        }
+        Ok(Factor {
+            amount: row.amount,
+            unit: row.unit.try_into()?,
+        })
+    }
 }

@@ -33,8 +33,8 @@ pub(crate) fn kind_of(note: &[u8]) -> u16
     number_at(note, 2)
 }
 
-// The bytes of a note, where it is as long as its kind asks.
-pub(crate) fn sized<const N: usize>(note: &[u8]) -> Result<&[u8; N], Refusal>
+// The bytes of a note, where they are N.
+pub(crate) fn of_length<const N: usize>(note: &[u8]) -> Result<&[u8; N], Refusal>
     ensures { Judged (length note.now ≡ N) WrongLength (λ bytes. bytes.now ≡ note.now) result }
 {
     note.try_into().map_err(|_| Refusal::WrongLength)

@@ -8,7 +8,7 @@ use crate::building::Building;
 use crate::content::{Content, read};
 use crate::entry::{SentEntry, SentQuantity, Withdrawal};
 use crate::factor::FactorRow;
-use crate::frame::sized;
+use crate::frame::of_length;
 use codes::Kind;
 use refusals::Refusal;
 
@@ -43,13 +43,13 @@ impl Content for Note {
             Kind::Factor => FactorRow::of_note(kind, note).map(Note::Factor),
             Kind::Counted => Ok(Note::Entry(SentEntry::of_form(
                 SentQuantity::Counted,
-                sized(note)?,
+                of_length(note)?,
             ))),
             Kind::Measured => Ok(Note::Entry(SentEntry::of_form(
                 SentQuantity::Measured,
-                sized(note)?,
+                of_length(note)?,
             ))),
-            Kind::Withdrawal => Ok(Note::Withdrawal(Withdrawal::from(sized(note)?))),
+            Kind::Withdrawal => Ok(Note::Withdrawal(Withdrawal::from_note(of_length(note)?))),
         }
     }
 }

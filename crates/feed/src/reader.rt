@@ -1,7 +1,8 @@
 // The notes of a feed, one after the other.
-ghost use Rattle.std.specs.Prelude.{◌≤◌, length};
+ghost use Rattle.std.specs.Prelude.{ℕ, ◌≤◌, List, ◌∷◌, length};
 
-mod calls;
+use crate::frame::first_note;
+use refusals::Refusal;
 
 // A part of the feed: a note, or what is left after the last one.
 #[derive(Clone, Copy, Debug, PartialEq, Eq)]
@@ -14,7 +15,7 @@ pub struct Part<'a> {
 }
 
 // Reads the caller's bytes where they lie. It is no `Copy`, since a copy would hand out its notes again.
-#[derive(Drop)]
+#[derive(Debug, Drop)]
 pub struct Reader<'a> {
     feed: &'a [u8],
     // how many bytes have been handed out
@@ -23,4 +24,45 @@ pub struct Reader<'a> {
     handed: usize,
     ghost within: { start ≤ length feed.now },
     ghost few: { handed ≤ start },
+}
+
+impl<'a> Reader<'a> {
+    ghost use Rattle.feed.specs.Feeds.{Opened, Answer, Answered, Run, Lawful, left_of, IsLeft};
+
+    pub fn new(feed: &'a [u8]) -> Reader<'a>
+        ensures { Opened feed.now result }
+    {
+        Reader {
+            feed,
+            start: 0,
+            handed: 0,
+        }
+    }
+
+    // No `Iterator`, since after a refusal it answers the same for ever.
+    // The next note, or none where the feed has ended. Where there is none or it is refused, the reader stays, and answers the same again.
+    pub fn next(&mut self) -> Result<Option<Part<'a>>, Refusal>
+        ensures value { Answered self.old result self.new }
+        ensures law { (feed : List ℕ) (before : List Answer) → Run feed before self.old → Lawful feed (result ∷ before) (left_of self.new) }
+    {
+        let left = self.left();
+        if left.bytes.is_empty() {
+            return Ok(None);
+        }
+        let bytes = first_note(left.bytes)?;
+        self.start += bytes.len();
+        self.handed += 1;
+        Ok(Some(Part { bytes, ..left }))
+    }
+
+    // What is not handed out yet, at the place of the next note.
+    pub fn left(&self) -> Part<'a>
+        ensures { IsLeft self.now result }
+    {
+        Part {
+            place: self.handed + 1,
+            start: self.start,
+            bytes: &self.feed[self.start..],
+        }
+    }
 }

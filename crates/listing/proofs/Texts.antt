@@ -1,19 +1,22 @@
 -- What is said of a note, by its value and by its bytes. Assumes nothing.
-use Rattle.std.proofs.Common.{◌≡◌, ℕ, zero, suc, List, [], ◌++◌, Some, Ok, codes, sym, refl, ap, ◌∙◌, subst, inl, inr, lit≤}
+use Rattle.std.proofs.Common.{◌≡◌, ℕ, zero, suc, List, [], ◌∷◌, ◌++◌, Some, Ok, codes, sym, refl, ap, ◌∙◌, subst, inl, inr, lit≤}
 use Rattle.codes.specs.Ranges.{KindRange}
 use Rattle.codes.specs.Words.{kind_word}
 use Rattle.booking.specs.Entries.{booked_entry, kind_entry}
+use Rattle.std.proofs.lemmas.List.{flat_map_more}
+use Rattle.std.specs.List.{flat_map}
+use Rattle.feed.specs.declared.entry.EntryHead.{EntryHead}
 use Rattle.feed.specs.declared.entry.SentEntry.{SentEntry}
 use Rattle.feed.specs.declared.note.Note.{Note}
 use Rattle.feed.specs.declared.note.Note.TheVariants.{Building, Factor, Entry, Withdrawal}
 use Rattle.feed.specs.Frames.{first_note, note_kind}
 use Rattle.feed.specs.Notes.{Says}
 use Rattle.feed.specs.Readings.{Reads}
-use Rattle.feed.specs.Words.{Named, building_fields, factor_fields, entry_kind, entry_fields, withdrawal_fields, said_of, words}
+use Rattle.feed.specs.Words.{Named, named, head_fields, building_fields, factor_fields, entry_kind, entry_fields, withdrawal_fields, said_of, words}
 use Rattle.listing.specs.Lines.{kind_fields, note_said, Weighs, Tells}
 use Rattle.listing.specs.Openings.{Account}
 
-said_at : (k : ℕ) (fields : List Named) (note : List ℕ) → note_kind note ≡ k → fields ≡ kind_fields k note → said_of k fields ≡ note_said note
+pub said_at : (k : ℕ) (fields : List Named) (note : List ℕ) → note_kind note ≡ k → fields ≡ kind_fields k note → said_of k fields ≡ note_said note
 said_at k fields note kind same = ap (said_of k) same ∙ ap (λ j. said_of j (kind_fields j note)) (sym kind)
 
 pub says_words : (bytes : List ℕ) (note : Note) → Says bytes note → words note ≡ note_said bytes
@@ -22,6 +25,11 @@ says_words bytes (Factor row) says = said_at 2 _ bytes says.0 (ap factor_fields 
 says_words bytes (Entry e) (inl says) = ap (λ e. said_of (entry_kind e.quantity) (entry_fields e)) says.1 ∙ said_at 3 _ bytes says.0 refl
 says_words bytes (Entry e) (inr says) = ap (λ e. said_of (entry_kind e.quantity) (entry_fields e)) says.1 ∙ said_at 4 _ bytes says.0 refl
 says_words bytes (Withdrawal w) says = said_at 5 _ bytes says.0 (ap withdrawal_fields says.1)
+
+-- the word for an entry, its head and its quantity
+pub entry_said : (word head : List ℕ) (e : EntryHead) (quantity : Named) → head ≡ flat_map named (head_fields e) → word ++ (head ++ named quantity) ≡ word ++ flat_map named (head_fields e ++ (quantity ∷ []))
+entry_said word head e quantity is =
+    ap (λ h. word ++ (h ++ named quantity)) is ∙ ap (λ l. word ++ l) (flat_map_more named [] (head_fields e) quantity)
 
 -- all that is said of a note that is read, and what it is booked at
 pub tells_note : (a : Account) (bs : List ℕ) (note : Note) (weight : List ℕ) → Reads KindRange Says bs (Ok note) → Weighs a (kind_entry (note_kind (first_note bs)) (first_note bs)) weight → Tells a bs (words note ++ weight)

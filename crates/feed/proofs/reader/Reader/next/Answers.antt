@@ -1,4 +1,4 @@
-use Rattle.std.proofs.Common.{Some, None, Ok, ◌≡◌, [], refl, ap, ◌∙◌, subst, arith, length-drop, length}
+use Rattle.std.proofs.Common.{Some, None, Ok, ◌≡◌, [], refl, ap, ◌∙◌, subst, arith, length-drop, length, rules}
 use Rattle.std.proofs.lemmas.Grind.{common_steps}
 use Rattle.feed.specs.declared.reader.Part.{Part}
 use Rattle.feed.specs.Feeds.{Answered, Hands, left_of}
@@ -13,6 +13,12 @@ returns-then-is_empty c =
     let none : left_of self ≡ [] = grind (arith, common_steps) in
     let told : Answered self (Ok None) self = (none, record { over = refl; bytes = refl; notes = refl }) in
     record { value = told; law = lawful_call self (Ok None) self told }
+
+pub returns-in_err-bytes : goal.returns-in_err-bytes
+returns-in_err-bytes c =
+    let self = c.args.self.now in
+    let told : Answered self c.from_residual.result self = search rules in
+    record { value = told; law = lawful_call self _ self told }
 
 pub invariant_of-self : goal.invariant_of-self
 invariant_of-self c =
