@@ -1,10 +1,12 @@
 -- The fields of what is sent into a sheet: where they lie in a note. Assumes nothing.
-use Rattle.std.specs.Prelude.{ℕ, List}
+use Rattle.std.specs.Prelude.{◌≡◌, ℕ, ◌⊎◌, List}
 use Rattle.feed.specs.declared.entry.EntryHead.{EntryHead}
 use Rattle.feed.specs.declared.entry.SentEntry.{SentEntry}
+use Rattle.feed.specs.declared.entry.SentQuantity.{SentQuantity}
 use Rattle.feed.specs.declared.entry.SentQuantity.TheVariants.{Counted, Measured}
 use Rattle.feed.specs.declared.entry.Withdrawal.{Withdrawal}
 use Rattle.feed.specs.Fields.{field}
+use Rattle.feed.specs.Frames.{note_kind}
 
 abbrev pub entry_head : List ℕ → EntryHead
 entry_head note = record {
@@ -21,6 +23,15 @@ counted note = record { head = entry_head note; quantity = Counted (field note 2
 
 abbrev pub measured : List ℕ → SentEntry
 measured note = record { head = entry_head note; quantity = Measured (field note 20 8) }
+
+-- the entry of a note, whose kind says which form its quantity has
+abbrev pub IsEntry : List ℕ → SentEntry → Type 0
+IsEntry note e = ((note_kind note ≡ 3) × (e ≡ counted note)) ⊎ ((note_kind note ≡ 4) × (e ≡ measured note))
+
+-- the kind of the notes that have such a quantity
+abbrev pub entry_kind : SentQuantity → ℕ
+entry_kind (Counted n) = 3
+entry_kind (Measured b) = 4
 
 abbrev pub withdrawal : List ℕ → Withdrawal
 withdrawal note = record { number = field note 4 4; revision = field note 8 4 }

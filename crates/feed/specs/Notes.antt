@@ -1,9 +1,9 @@
 -- What a note says, kind by kind. Assumes nothing.
-use Rattle.std.specs.Prelude.{◌≡◌, ℕ, ◌⊎◌, List}
+use Rattle.std.specs.Prelude.{◌≡◌, ℕ, List}
 use Rattle.feed.specs.declared.note.Note.{Note}
 use Rattle.feed.specs.declared.note.Note.TheVariants.{Building, Factor, Entry, Withdrawal}
 use Rattle.feed.specs.Buildings.{IsBuilding}
-use Rattle.feed.specs.Entries.{counted, measured, withdrawal}
+use Rattle.feed.specs.Entries.{IsEntry, withdrawal}
 use Rattle.feed.specs.Factors.{IsFactorRow}
 use Rattle.feed.specs.Frames.{note_kind}
 
@@ -11,5 +11,5 @@ use Rattle.feed.specs.Frames.{note_kind}
 abbrev pub Says : List ℕ → Note → Type 0
 Says note (Building b) = (note_kind note ≡ 1) × IsBuilding note b
 Says note (Factor row) = (note_kind note ≡ 2) × IsFactorRow note row
-Says note (Entry e) = ((note_kind note ≡ 3) × (e ≡ counted note)) ⊎ ((note_kind note ≡ 4) × (e ≡ measured note))
+Says note (Entry e) = IsEntry note e
 Says note (Withdrawal w) = (note_kind note ≡ 5) × (w ≡ withdrawal note)

@@ -12,6 +12,7 @@ use Rattle.feed.specs.declared.factor.FactorRow.{FactorRow}
 use Rattle.feed.specs.declared.note.Note.{Note}
 use Rattle.feed.specs.declared.note.Note.TheVariants.{Building, Factor, Entry, Withdrawal}
 use Rattle.feed.specs.Buildings.{numbers_of}
+use Rattle.feed.specs.Entries.{entry_kind}
 
 -- a field's name and its value
 abbrev pub Named : Type 0
@@ -46,10 +47,6 @@ withdrawal_fields w = (codes "number", w.number) ∷ (codes "revision", w.revisi
 -- a kind in a word, and fields by name
 abbrev pub said_of : ℕ → List Named → List ℕ
 said_of k fields = kind_word k ++ flat_map named fields
-
-abbrev pub entry_kind : SentQuantity → ℕ
-entry_kind (Counted n) = 3
-entry_kind (Measured b) = 4
 
 -- what a note says
 abbrev pub words : Note → List ℕ

@@ -1,9 +1,15 @@
 // The notes that are sent into a sheet, as they came: none of their numbers is judged here.
-ghost use Rattle.std.specs.Prelude.{◌≡◌};
-ghost use Rattle.feed.specs.Entries.{entry_head, withdrawal};
+ghost use Rattle.std.specs.Prelude.{◌≡◌, ◌⊎◌};
+ghost use Rattle.std.proofs.Common.{rules};
+ghost use Rattle.codes.specs.Codes.{kind_number};
+ghost use Rattle.feed.specs.Entries.{entry_head, entry_kind, IsEntry, withdrawal};
 ghost use Rattle.feed.specs.Fields.{field};
 
+use crate::content::Content;
+use crate::frame::of_length;
 use crate::little::number_at;
+use codes::Kind;
+use refusals::Refusal;
 
 // What an entry says before its quantity.
 #[derive(Clone, Copy, Debug, PartialEq, Eq)]
@@ -52,9 +58,21 @@ impl EntryHead {
     }
 }
 
+impl SentQuantity {
+    // The kind of the notes that have such a quantity.
+    pub fn kind(self) -> Kind
+        ensures { kind_number result ≡ entry_kind self }
+    {
+        match self {
+            SentQuantity::Counted(_) => Kind::Counted,
+            SentQuantity::Measured(_) => Kind::Measured,
+        }
+    }
+}
+
 impl SentEntry {
     // The entry of a note, its last field being a quantity of this form.
-    pub(crate) fn of_form<F: FnOnce(u64) -> SentQuantity>(form: F, note: &[u8; 28]) -> SentEntry
+    fn of_form<F: FnOnce(u64) -> SentQuantity>(form: F, note: &[u8; 28]) -> SentEntry
         requires { F.pre form (field note.now 20 8) }
         ensures head { result.head ≡ entry_head note.now }
         ensures quantity { F.post form (field note.now 20 8) result.quantity }
@@ -66,13 +84,44 @@ impl SentEntry {
     }
 }
 
+impl Content for SentEntry {
+    ghost Wanted = { λ k. (k ≡ 3) ⊎ (k ≡ 4) };
+
+    ghost Says = { IsEntry };
+
+    ghost known = { Prim.search rules };
+
+    fn of_note(kind: Kind, note: &[u8]) -> Result<SentEntry, Refusal> {
+        match kind {
+            Kind::Counted => Ok(SentEntry::of_form(SentQuantity::Counted, of_length(note)?)),
+            Kind::Measured => Ok(SentEntry::of_form(SentQuantity::Measured, of_length(note)?)),
+            _ => Err(Refusal::UnwantedKind),
+        }
+    }
+}
+
 impl Withdrawal {
-    pub(crate) fn from_note(note: &[u8; 12]) -> Withdrawal
+    fn from_note(note: &[u8; 12]) -> Withdrawal
         ensures { result ≡ withdrawal note.now }
     {
         Withdrawal {
             number: number_at(note, 4),
             revision: number_at(note, 8),
+        }
+    }
+}
+
+impl Content for Withdrawal {
+    ghost Wanted = { λ k. k ≡ 5 };
+
+    ghost Says = { λ note w. w ≡ withdrawal note };
+
+    ghost known = { Prim.search rules };
+
+    fn of_note(kind: Kind, note: &[u8]) -> Result<Withdrawal, Refusal> {
+        match kind {
+            Kind::Withdrawal => Ok(Withdrawal::from_note(of_length(note)?)),
+            _ => Err(Refusal::UnwantedKind),
         }
     }
 }

@@ -15,9 +15,7 @@ pub(crate) fn number_at<const N: usize, T: Little<N>>(note: &[u8], at: usize) ->
     requires { at + N ≤ length note.now }
     ensures { T.value result ≡ field note.now at N }
 {
-    let mut bytes = [0; N];
-    bytes.copy_from_slice(&note[at..at + N]);
-    T::from_bytes(bytes)
+    T::from_bytes(note[at..at + N].try_into().unwrap())
 }
 
 impl Little<2> for u16 {

@@ -6,9 +6,8 @@ ghost use Rattle.feed.specs.Readings.{Reads};
 
 use crate::building::Building;
 use crate::content::{Content, read};
-use crate::entry::{SentEntry, SentQuantity, Withdrawal};
+use crate::entry::{SentEntry, Withdrawal};
 use crate::factor::FactorRow;
-use crate::frame::of_length;
 use codes::Kind;
 use refusals::Refusal;
 
@@ -41,15 +40,8 @@ impl Content for Note {
         match kind {
             Kind::Building => Building::of_note(kind, note).map(Note::Building),
             Kind::Factor => FactorRow::of_note(kind, note).map(Note::Factor),
-            Kind::Counted => Ok(Note::Entry(SentEntry::of_form(
-                SentQuantity::Counted,
-                of_length(note)?,
-            ))),
-            Kind::Measured => Ok(Note::Entry(SentEntry::of_form(
-                SentQuantity::Measured,
-                of_length(note)?,
-            ))),
-            Kind::Withdrawal => Ok(Note::Withdrawal(Withdrawal::from_note(of_length(note)?))),
+            Kind::Counted | Kind::Measured => SentEntry::of_note(kind, note).map(Note::Entry),
+            Kind::Withdrawal => Withdrawal::of_note(kind, note).map(Note::Withdrawal),
         }
     }
 }

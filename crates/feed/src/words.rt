@@ -1,7 +1,8 @@
-// Notes in words: a kind, and its fields by name.
+// Notes in words: a kind, and its fields by name. A kind that is fixed is written out, and by the clauses its word is that of `Kind`.
 ghost use Rattle.std.specs.Prelude.{Some};
 ghost use Rattle.feed.specs.Buildings.{numbers_of};
-ghost use Rattle.feed.specs.Words.{said_of, building_fields, factor_fields, entry_kind, entry_fields, withdrawal_fields, words};
+ghost use Rattle.feed.specs.Entries.{entry_kind};
+ghost use Rattle.feed.specs.Words.{said_of, building_fields, factor_fields, entry_fields, withdrawal_fields, words};
 
 use crate::building::Building;
 use crate::entry::{EntryHead, SentEntry, SentQuantity, Withdrawal};
@@ -30,11 +31,10 @@ impl fmt::Display for FactorRow {
     ghost output = { λ row. Some (said_of 2 (factor_fields row)) };
 
     fn fmt<W: fmt::Write>(&self, f: &mut fmt::Formatter<W>) -> fmt::Result {
-        write!(
-            f,
-            "factor code={} amount={} unit={}",
-            self.code, self.amount, self.unit
-        )
+        let code = self.code;
+        let amount = self.amount;
+        let unit = self.unit;
+        write!(f, "factor code={code} amount={amount} unit={unit}")
     }
 }
 
@@ -49,13 +49,14 @@ impl fmt::Display for SentEntry {
             span,
             code,
         } = self.head;
-        let (word, name, quantity) = match self.quantity {
-            SentQuantity::Counted(thousandths) => ("entry", "quantity", thousandths),
-            SentQuantity::Measured(bits) => ("measured", "bits", bits),
+        let kind = self.quantity.kind();
+        let (name, quantity) = match self.quantity {
+            SentQuantity::Counted(thousandths) => ("quantity", thousandths),
+            SentQuantity::Measured(bits) => ("bits", bits),
         };
         write!(
             f,
-            "{word} number={number} revision={revision} row={row} span={span} code={code} {name}={quantity}"
+            "{kind} number={number} revision={revision} row={row} span={span} code={code} {name}={quantity}"
         )
     }
 }
@@ -64,11 +65,9 @@ impl fmt::Display for Withdrawal {
     ghost output = { λ w. Some (said_of 5 (withdrawal_fields w)) };
 
     fn fmt<W: fmt::Write>(&self, f: &mut fmt::Formatter<W>) -> fmt::Result {
-        write!(
-            f,
-            "withdrawal number={} revision={}",
-            self.number, self.revision
-        )
+        let number = self.number;
+        let revision = self.revision;
+        write!(f, "withdrawal number={number} revision={revision}")
     }
 }
 
