@@ -1,13 +1,12 @@
 -- The tests of a measured quantity, and its range. Assumes nothing.
 use Rattle.std.proofs.Common.{◌≡◌, ℕ, zero, suc, ◌*◌, ◌<◌, ◌≤◌, true, false, ℤ, pos, negsuc, sym, refl, subst, true≢false, arith, ltb-false, ltb-true}
 use lib.Ieee.{Float, nan, inf, fin, up, down, binary64, of_bits, is_nan, lt}
-use Rattle.std.proofs.lemmas.Nat.{pow_pos}
+use lib.Ieee.Fits.{up_pos, down_pos}
 use Rattle.exact.specs.Rounding.{Divides}
 use Rattle.exact.proofs.Nearness.{rounded_most}
 use Rattle.booking.specs.declared.quantity.Quantity.{Quantity}
 use Rattle.booking.specs.declared.quantity.Quantity.TheVariants.{Counted, Measured}
 use Rattle.booking.specs.Quantities.{MeasuredInRange, measured_thousandths, QuantityInRange, booked_thousandths}
-use Rattle.booking.proofs.Patterns.{down_pos}
 
 zero_is : of_bits binary64 0 ≡ fin false 0 (pos 0)
 unfolding of_bits
@@ -16,10 +15,6 @@ zero_is = refl
 million_is : of_bits binary64 4696837146684686336 ≡ fin false 15625 (pos 6)
 unfolding of_bits
 million_is = refl
-
-up_pos : (e : ℤ) → 0 < up e
-up_pos (pos k) = pow_pos k
-up_pos (negsuc k) = omega arith
 
 none : (m : ℕ) (e : ℤ) → m * up e ≡ 0 → m ≡ 0
 none zero e h = refl

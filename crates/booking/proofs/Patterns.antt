@@ -4,6 +4,7 @@ use native.Mathlib.Nat.{eq_of_mul-eq-mul_right}
 use lib.Ieee.{Float, nan, inf, fin, up, down, binary64, of_bits, to_bits, of_fields, odd, fits, is_nan}
 use lib.Ieee.Bits.{of_bits-to_bits}
 use lib.Ieee.Exact.{HasValue, odd_sign}
+use lib.Ieee.Fits.{down_pos}
 use Rattle.std.proofs.str.Laws.{order}
 use Rattle.std.proofs.lemmas.Nat.{pow_pos, pow-add}
 use Rattle.exact.specs.Rounding.{over, Same}
@@ -31,10 +32,6 @@ thousand : (x : Float) (s : Bool) (t c : ℕ) → MeasuredInRange x → HasValue
 thousand nan s t c r v = absurd r
 thousand (inf n) s t c r v = absurd r
 thousand (fin n m e) s t c r v = ap pos (omega (arith, v.1))
-
-pub down_pos : (e : ℤ) → 0 < down e
-down_pos (pos k) = omega arith
-down_pos (negsuc k) = pow_pos (suc k)
 
 -- a number in range is below 2^53 and more
 small : (x : Float) (s : Bool) (t p c : ℕ) → MeasuredInRange x → HasValue x s ((2 ^ 52 + t) * p) c → 2 * c ≤ p → 0 < c → ⊥

@@ -9,7 +9,7 @@ use Rattle.booking.specs.declared.entry.Entry.{Entry}
 use Rattle.booking.specs.declared.quantity.Quantity.{Quantity}
 use Rattle.booking.specs.declared.quantity.Quantity.TheVariants.{Counted, Measured}
 
--- eight bytes that were measured are a binary64 number
+-- the bits of a measured quantity are a binary64 number
 abbrev pub booked_quantity : SentQuantity → Quantity
 booked_quantity (Thousandths n) = Counted n
 booked_quantity (Bits b) = Measured (from_bits binary64 b)

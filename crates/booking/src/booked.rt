@@ -30,7 +30,7 @@ pub fn book<S: FactorSource>(
     if !reckoning.unit_fits(factor.unit) {
         return Err(Refusal::UnfitUnit);
     }
-    let grams = grams(thousandths, factor.amount, terms)?;
+    let grams = grams(thousandths, factor, terms)?;
     Ok(Line {
         row,
         span: head.span,

@@ -10,7 +10,6 @@ mod reckoning;
 mod row;
 mod rules;
 mod weight;
-mod words;
 
 pub use booked::book;
 pub use entry::Entry;

@@ -4,6 +4,7 @@ ghost use Rattle.booking.specs.Rows.{row_number, subtracted};
 ghost use Rattle.booking.specs.Weights.{GramsRange, signed_grams};
 
 use crate::row::Row;
+use std::fmt;
 
 // What an entry comes to. Every line that exists keeps its range.
 #[derive(Clone, Copy, Debug, PartialEq, Eq)]
@@ -27,5 +28,18 @@ impl Line {
         } else {
             grams
         }
+    }
+}
+
+impl fmt::Display for Line {
+    ghost use Rattle.std.specs.Prelude.{Some};
+    ghost use Rattle.booking.specs.Lines.{line_said};
+
+    ghost output = { λ line. Some (line_said line) };
+
+    fn fmt<W: fmt::Write>(&self, f: &mut fmt::Formatter<W>) -> fmt::Result {
+        let thousandths = self.thousandths;
+        let grams = self.signed_grams();
+        write!(f, "thousandths={thousandths} grams={grams}")
     }
 }

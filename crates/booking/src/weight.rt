@@ -7,6 +7,7 @@ ghost use Rattle.refusals.specs.Refusals.{Judged};
 
 use crate::reckoning::Terms;
 use exact::Ratio;
+use feed::factor::Factor;
 use refusals::Refusal;
 
 const MOST_PRODUCT: u64 = 1_000_000_000_000_000_000;
@@ -15,13 +16,12 @@ const MOST_PRODUCT: u64 = 1_000_000_000_000_000_000;
 const PER_GRAM: u32 = 10_000;
 
 // The grams nearest to the exact weight, if the product is not too large. It is divided once, last, so that nothing is rounded on the way.
-pub(crate) fn grams(thousandths: u64, amount: u32, terms: Terms) -> Result<u64, Refusal>
+pub(crate) fn grams(thousandths: u64, factor: Factor, terms: Terms) -> Result<u64, Refusal>
     requires thousandths { thousandths ≤ 1000000000 }
-    requires amount { amount ≤ 1000000000 }
     requires divisor { (0 < terms.divisor) × (terms.divisor ≤ 100) }
-    ensures { Judged (ProductRange (product thousandths amount terms.multiplier)) TooLarge (λ g. g ≡ rounded (product thousandths amount terms.multiplier) (exact_divisor terms.divisor)) result }
+    ensures { Judged (ProductRange (product thousandths factor.amount terms.multiplier)) TooLarge (λ g. g ≡ rounded (product thousandths factor.amount terms.multiplier) (exact_divisor terms.divisor)) result }
 {
-    let product = (thousandths * u64::from(amount))
+    let product = (thousandths * u64::from(factor.amount))
         .checked_mul(u64::from(terms.multiplier))
         .filter(|product| *product <= MOST_PRODUCT)
         .ok_or(Refusal::TooLarge)?;

@@ -2,3 +2,4 @@ pub mod Maps
 pub mod BuiltIn
 pub mod Lists
 pub mod Layers
+pub mod Texts

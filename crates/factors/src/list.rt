@@ -16,10 +16,10 @@ impl<'a> FactorSource for ProjectList<'a> {
 
     fn factor(&self, code: u32) -> Result<Factor, Lack> {
         for row in self.rows {
-            if row.code == code {
-                if let Ok(factor) = Factor::try_from(*row) {
-                    return Ok(factor);
-                }
+            if row.code == code
+                && let Ok(factor) = Factor::try_from(*row)
+            {
+                return Ok(factor);
             }
         }
         Err(Lack { code })

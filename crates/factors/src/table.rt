@@ -48,12 +48,10 @@ impl FactorSource for BuiltIn {
                 unit: FactorUnit::KilowattHour,
             });
         }
-        if code < FIRST_REFRIGERANT {
-            return Err(Lack { code });
-        }
-        let Some(warming) = WARMING_POTENTIALS.get((code - FIRST_REFRIGERANT) as usize) else {
-            return Err(Lack { code });
-        };
+        let warming = code
+            .checked_sub(FIRST_REFRIGERANT)
+            .and_then(|i| WARMING_POTENTIALS.get(i as usize))
+            .ok_or(Lack { code })?;
         Ok(Factor {
             amount: *warming * KILOGRAM,
             unit: FactorUnit::Kilogram,

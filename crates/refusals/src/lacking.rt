@@ -2,6 +2,7 @@
 ghost use Rattle.std.specs.Prelude.{Some};
 ghost use Rattle.refusals.specs.Texts.{lacking_said};
 
+use std::error::Error;
 use std::fmt;
 
 // The code that was asked for, and the code that is lacking: a source that answers by another code may lack that one.
@@ -20,3 +21,5 @@ impl fmt::Display for Lacking {
         write!(f, "asked={asked} lacking={lacking}")
     }
 }
+
+impl Error for Lacking {}

@@ -46,7 +46,6 @@ grams-requires g c =
     let thousandths = c.in_ok-thousandths.ensures.value in
     record {
       thousandths = subst (λ n. n ≤ 1000000000) (sym thousandths.1) (booked_range c.args.entry.now.quantity thousandths.0);
-      amount = c.in_ok-factor.factor.amount_within.1;
       divisor = subst (λ d. (0 < d) × (d ≤ 100)) (sym terms.1.1) (divisor_range _ _ terms.0);
     }
 
