@@ -1,5 +1,5 @@
 -- The tests of a measured quantity, and its range. Assumes nothing.
-use Rattle.std.proofs.Common.{◌≡◌, ℕ, zero, suc, ◌*◌, ◌<◌, ◌≤◌, true, false, ℤ, pos, negsuc, sym, refl, subst, true≢false, arith, ltb-false, ltb-true}
+use Rattle.std.proofs.Common.{◌≡◌, ℕ, zero, suc, ◌*◌, ◌≤◌, true, false, ℤ, pos, sym, refl, subst, true≢false, arith, ltb-false, ltb-true}
 use lib.Ieee.{Float, nan, inf, fin, up, down, binary64, of_bits, is_nan, lt}
 use lib.Ieee.Fits.{up_pos, down_pos}
 use Rattle.exact.specs.Rounding.{Divides}

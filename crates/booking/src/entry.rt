@@ -1,4 +1,5 @@
-// An entry as it is booked: what it says of itself, and its quantity.
+// An entry as it is booked: what it says of itself, and its quantity. As it was sent, a measured quantity is kept by its
+// bits, which a floating number would lose.
 ghost use Rattle.std.specs.Prelude.{◌≡◌};
 ghost use Rattle.booking.specs.Entries.{booked_entry};
 

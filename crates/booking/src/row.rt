@@ -33,7 +33,7 @@ pub enum Row {
 }
 
 impl Row {
-    // Every row, in the order of their numbers.
+    // Every row, in the order of their numbers. For pages, which nothing draws yet.
     pub const ALL: [Row; 22] = [
         Row::Production,
         Row::Haulage,

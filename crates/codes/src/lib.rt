@@ -1,4 +1,5 @@
 // What has a number in a feed and a name in the code: kinds of notes, regions, building types and units.
+// Each has its conversions written out, since an `impl` that a macro writes can promise nothing.
 #![tactic(auto)]
 
 mod kinds;

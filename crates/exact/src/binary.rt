@@ -4,7 +4,8 @@ ghost use Rattle.exact.specs.Rounding.{nearest, over};
 
 use crate::rounding;
 
-// The numerator divided by 2 to the power of the shift.
+// The numerator divided by 2 to the power of the shift. No `Ratio`, whose divisor has 32 bits: this one's may be 2 to the
+// power of 1074. No `PartialEq`, for one number may be written with many shifts.
 #[derive(Clone, Copy, Debug)]
 pub struct Binary {
     pub numerator: u64,

@@ -4,6 +4,7 @@ ghost use Rattle.exact.specs.Rounding.{nearest, over, Rounding};
 
 use crate::rounding;
 
+// No `PartialEq`: one half is 1/2, and 2/4 too.
 #[derive(Clone, Copy, Debug)]
 pub struct Ratio {
     pub numerator: i64,

@@ -2,7 +2,7 @@
 ghost use Rattle.std.specs.Prelude.{◌≡◌, ℕ, ◌+◌, ◌≤◌, length};
 ghost use Rattle.feed.specs.Fields.{little, field};
 
-// An unsigned number of N bytes.
+// An unsigned number of N bytes. The toolchain's own trait for this hides N, so no array could be cut from a note for it.
 pub(crate) trait Little<const N: usize>: Sized {
     ghost value: { Self → ℕ };
 

@@ -12,7 +12,7 @@ const BUILDING: [u8; 18] = [18, 0, 1, 0, 0x10, 0x27, 0, 0, 50, 0, 2, 0, 2, 0, 1,
 // code 7, amount 7,000,000, unit 1
 const FACTOR: [u8; 14] = [14, 0, 2, 0, 7, 0, 0, 0, 0xC0, 0xCF, 0x6A, 0, 1, 0];
 
-// The number by which reading is refused; none for a value.
+// The number by which reading is refused, as the documents have it; none for a value.
 fn refused<T: Drop>(answer: Result<T, Refusal>) -> Option<u8> {
     answer.err().map(Refusal::number)
 }
@@ -137,9 +137,7 @@ fn every_kind(rt: HostRuntime) {
 #[test]
 fn trailing_bytes(rt: HostRuntime) -> Result<(), Fail> {
     let bytes = b"\x12\0\x01\0\x10\x27\0\0\x32\0\x02\0\x03\0\x01\0\x09\0\xFF\xFF";
-    let Ok(building) = Building::read(bytes) else {
-        return Err(Fail::new("refused"));
-    };
+    let building = Building::read(bytes)?;
     assert_eq!(rt; building.area, 10_000);
     assert_eq!(rt; building.life, 50);
     assert_eq!(rt; u16::from(building.region), 2);
@@ -147,9 +145,7 @@ fn trailing_bytes(rt: HostRuntime) -> Result<(), Fail> {
     assert_eq!(rt; u16::from(building.building_type), 1);
     assert_eq!(rt; building.reference, 9);
     let bytes = b"\x0E\0\x02\0\x07\0\0\0\xC0\xCF\x6A\0\x01\0\0";
-    let Ok(row) = FactorRow::read(bytes) else {
-        return Err(Fail::new("refused"));
-    };
+    let row = FactorRow::read(bytes)?;
     assert_eq!(rt; row.code, 7);
     assert_eq!(rt; row.amount, 7_000_000);
     assert_eq!(rt; row.unit, 1);

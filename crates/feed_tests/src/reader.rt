@@ -24,7 +24,7 @@ fn cut_at_every_length(rt: HostRuntime) -> Result<(), Fail> {
         let mut reader = Reader::new(&feed[..n]);
         let mut end = 0;
         let mut notes = 0;
-        for (place, next) in (1..10).zip(ENDS) {
+        for (place, next) in (1..).zip(ENDS) {
             if next > n {
                 break;
             }

@@ -6,7 +6,7 @@ use feed::entry::EntryHead;
 use feed::factor::FactorRow;
 use refusals::Refusal;
 
-// The grams of an entry in a building of so many years, or the number by which it is refused.
+// The grams of an entry in a building of so many years, or the number by which it is refused, as the documents have it.
 fn outcome(years: u16, row: u16, quantity: Quantity, amount: u32) -> Result<u64, u8> {
     let numbers = BuildingNumbers {
         area: 10_000,

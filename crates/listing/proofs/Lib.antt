@@ -1,5 +1,5 @@
 mod Runs
 mod Texts
-pub mod Listed
+mod Listed
 mod Begun
 mod Only

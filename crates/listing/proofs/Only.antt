@@ -18,8 +18,8 @@ use Rattle.codes.specs.Words.{kind_word}
 use Rattle.feed.specs.Readings.{readable, Reads}
 use Rattle.feed.specs.Words.{named}
 use Rattle.refusals.specs.Refusals.{refusal_number, refusal_codes}
-use Rattle.refusals.specs.Texts.{codes_said, refusal_said}
-use Rattle.refusals.proofs.Numbers.{no_codes}
+use Rattle.refusals.specs.Texts.{refusal_said}
+use Rattle.refusals.proofs.Numbers.{no_codes, same_words}
 use Rattle.refusals.proofs.Deciding.{least_only, unbroken, broken_up_to}
 use Rattle.feed.proofs.Framing.{framed_front, framed_or_not, front_only}
 use Rattle.listing.specs.Lines.{note_said, RefusedSaid, outcome_said, Weighs, NoteTold, Said, Tells, Line}
@@ -48,7 +48,7 @@ unfolding numbers_said
 outcome_only y known e (Ok l) (Ok m) a b = ap numbers_said (one_line y known e l m a b)
 outcome_only y known e (Ok l) (Err g) a b = absurd (not_both y known e l g a b)
 outcome_only y known e (Err f) (Ok m) a b = absurd (not_both y known e m f b a)
-outcome_only y known e (Err f) (Err g) a b = let same = one_refusal y known e f g a b in (λ i. codes "refused " ++ (decimal (same.0 i) ++ codes_said (same.1 i)))
+outcome_only y known e (Err f) (Err g) a b = let same = one_refusal y known e f g a b in same_words f g same.0 same.1
 
 weighs_only : (a : Account) (e : Option Entry) (s t : List ℕ) → Weighs a e s → Weighs a e t → s ≡ t
 weighs_only a None s t w v = w ∙ sym v
@@ -66,7 +66,7 @@ said_only a bs s t (Err f) (Ok n) reads reads' said said' = absurd (unbroken (re
 said_only a bs s t (Err f) (Err g) reads reads' said said' =
     let same = least_only (readable KindRange bs) _ _ reads reads' in
     let none = names_none bs f reads ∙ sym (names_none bs g reads') in
-    refused_only bs f g s t (λ i. codes "refused " ++ (decimal (same i) ++ codes_said (none i))) said said'
+    refused_only bs f g s t (same_words f g same none) said said'
 
 tells_only : (a : Account) (bs s t : List ℕ) → Tells a bs s → Tells a bs t → s ≡ t
 tells_only a bs s t x y = said_only a bs s t _ _ x.read y.read x.tells y.tells

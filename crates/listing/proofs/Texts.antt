@@ -12,7 +12,8 @@ use Rattle.feed.specs.declared.note.Note.TheVariants.{Building, Factor, Entry, W
 use Rattle.feed.specs.Frames.{first_note, note_kind}
 use Rattle.feed.specs.Notes.{Says}
 use Rattle.feed.specs.Readings.{Reads}
-use Rattle.feed.specs.Words.{Named, named, head_fields, building_fields, factor_fields, entry_kind, entry_fields, withdrawal_fields, said_of, words}
+use Rattle.feed.specs.Entries.{entry_kind}
+use Rattle.feed.specs.Words.{Named, named, head_fields, building_fields, factor_fields, entry_fields, withdrawal_fields, said_of, words}
 use Rattle.listing.specs.Lines.{kind_fields, note_said, Weighs, Tells}
 use Rattle.listing.specs.Openings.{Account}
 

@@ -1,6 +1,7 @@
 -- Statements by their text. Assumes nothing.
 use Rattle.std.specs.Prelude.{ℕ, List, ◌++◌, codes}
-use Rattle.feed.specs.Words.{words, said_of, entry_kind, entry_fields}
+use Rattle.feed.specs.Entries.{entry_kind}
+use Rattle.feed.specs.Words.{words, said_of, entry_fields}
 use Rattle.listing.specs.declared.statement.Statement.{Statement}
 use Rattle.listing.specs.declared.statement.Statement.TheVariants.{Note, Entry, Refused, Unframed}
 use Rattle.listing.specs.Lines.{note_refused, bytes_refused, outcome_said}

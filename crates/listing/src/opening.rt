@@ -1,12 +1,63 @@
 // What a feed begins with: its building and its own factors.
+ghost use Rattle.std.specs.Prelude.{IfOk, MatchBool};
+ghost use Rattle.listing.specs.Openings.{RowFirst, Rows, Begins};
+
+use codes::Kind;
 use feed::building::Building;
 use feed::factor::FactorRow;
-
-mod read;
+use feed::frame::Head;
+use feed::reader::Reader;
+use std::alloc::{AllocError, Global};
 
 // The building, if the feed has one first, and the rows of factors after it.
-#[derive(Drop)]
+#[derive(Debug, Drop)]
 pub struct Opening {
     pub building: Option<Building>,
     pub rows: Vec<FactorRow>,
+}
+
+impl Opening {
+    // The first note, if it is a building, and the run of factor rows after it; without a building there is no list either.
+    pub fn read(heap: Global, feed: &[u8]) -> Result<Opening, AllocError>
+        ensures { IfOk result (λ o. Begins feed.now o.building o.rows.items) }
+    {
+        let Ok(building) = Building::read(feed) else {
+            return Ok(Opening {
+                building: None,
+                rows: Vec::new(heap),
+            });
+        };
+        // Past the first note, which is the building.
+        let mut reader = Reader::new(feed);
+        let _ = reader.next();
+        let rows = rows(heap, reader.left().bytes)?;
+        Ok(Opening {
+            building: Some(building),
+            rows,
+        })
+    }
+}
+
+// The run of factor rows that the bytes begin with. One that is refused is passed over.
+fn rows(heap: Global, bytes: &[u8]) -> Result<Vec<FactorRow>, AllocError>
+    ensures { IfOk result (λ v. Rows bytes.now v.items) }
+{
+    let mut rows = Vec::new(heap);
+    let mut reader = Reader::new(bytes);
+    while let Ok(Some(part)) = reader.next() {
+        if !is_factor_row(part.bytes) {
+            return Ok(rows);
+        }
+        if let Ok(row) = FactorRow::read(part.bytes) {
+            rows.push(row)?;
+        }
+    }
+    Ok(rows)
+}
+
+// Whether the first note of the bytes is of the kind of factor rows.
+fn is_factor_row(bytes: &[u8]) -> bool
+    ensures { MatchBool result (RowFirst bytes.now) (RowFirst bytes.now → ⊥) }
+{
+    Head::read(bytes).is_ok_and(|head| head.kind == u16::from(Kind::Factor))
 }

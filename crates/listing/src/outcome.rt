@@ -37,7 +37,7 @@ impl fmt::Display for Outcome {
         match &self.0 {
             Some(Ok(line)) => write!(f, "{line}"),
             Some(Err(refusal)) => write!(f, "{refusal}"),
-            None => write!(f, "unbooked"),
+            None => f.write_str("unbooked"),
         }
     }
 }

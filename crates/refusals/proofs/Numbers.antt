@@ -1,9 +1,10 @@
 -- A refusal by its number. Assumes nothing.
-use Rattle.std.proofs.Common.{◌≡◌, [], refl, arith}
+use Rattle.std.proofs.Common.{◌≡◌, [], ◌++◌, codes, decimal, refl, arith}
 use Rattle.refusals.specs.declared.lacking.Lacking.{Lacking}
 use Rattle.refusals.specs.declared.refusal.Refusal.{Refusal}
 use Rattle.refusals.specs.declared.refusal.Refusal.TheVariants.{Unframed, UnwantedKind, WrongLength, OutOfRange, UnknownRow, UnfitSpan, UnfitQuantity, FactorLacking, UnfitUnit, TooLarge}
 use Rattle.refusals.specs.Refusals.{refusal_number, refusal_codes}
+use Rattle.refusals.specs.Texts.{codes_said, refusal_said}
 
 pub number_one : (f : Refusal) → refusal_number f ≡ 1 → f ≡ Unframed
 number_one Unframed e = refl
@@ -41,3 +42,7 @@ number_eight UnfitQuantity e = absurd (omega arith)
 number_eight (FactorLacking l) e = (l, refl)
 number_eight UnfitUnit e = absurd (omega arith)
 number_eight TooLarge e = absurd (omega arith)
+
+-- a refusal's words depend on its number and its codes alone
+pub same_words : (f g : Refusal) → refusal_number f ≡ refusal_number g → refusal_codes f ≡ refusal_codes g → refusal_said f ≡ refusal_said g
+same_words f g number named i = codes "refused " ++ (decimal (number i) ++ codes_said (named i))

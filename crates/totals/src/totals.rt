@@ -1,4 +1,4 @@
-// The one value that pages and grades are drawn from.
+// The one value that pages and grades will be drawn from.
 ghost use Rattle.std.specs.Prelude.{◌≤◌, sum_by, sum, unsigned_abs};
 
 // How many rows a sheet has.
@@ -8,8 +8,8 @@ pub const ROWS: usize = 22;
 // Two arrays beside one another, since the project asks for the grams as one array of numbers.
 #[derive(Clone, Copy, Debug, PartialEq, Eq)]
 pub struct Totals {
-    pub grams: [i64; 22],
-    pub counts: [u16; 22],
+    pub grams: [i64; ROWS],
+    pub counts: [u16; ROWS],
     ghost light: { sum_by unsigned_abs grams ≤ 51200000000000000 },
     ghost few: { sum counts ≤ 512 },
 }

@@ -1,7 +1,7 @@
 use Rattle.std.proofs.Common.{rules}
 use Rattle.listing.proofs.Runs.{no_more, another_kind, one_more, passed_over}
-use Rattle.listing.proofs.opening.read.rows.Goals as goal
-use Rattle.listing.proofs.opening.read.rows.Goals.{in_default, in_default-2}
+use Rattle.listing.proofs.opening.rows.Goals as goal
+use Rattle.listing.proofs.opening.rows.Goals.{in_default, in_default-2}
 
 pub returns-then-not-is_factor_row : goal.returns-then-not-is_factor_row
 returns-then-not-is_factor_row c = another_kind _ _ _ c.loop-part.invariant c.in-Ok-Some.part c.next.new.self (rw c.in-Ok-Some.field-0-is at c.in-Ok-Some.ensures.value) c.if-not-is_factor_row.ensures

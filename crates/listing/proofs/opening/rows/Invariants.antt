@@ -1,6 +1,6 @@
 use Rattle.std.proofs.Common.{◌-◌, length, vec_items}
 use Rattle.listing.proofs.Runs.{Sofar}
-use Rattle.listing.proofs.opening.read.rows.Given as goal
+use Rattle.listing.proofs.opening.rows.Given as goal
 
 abbrev pub invariant-loop-part : goal.invariant-loop-part
 invariant-loop-part l = Sofar l.bytes l.reader (vec_items l.rows)
