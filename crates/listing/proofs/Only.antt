@@ -40,12 +40,12 @@ refused_only bs f g s t same a b =
     (framed_or_not bs)
 
 -- what is said of a line, by its numbers
-numbers_said : Booked → List ℕ
-numbers_said b = codes "thousandths=" ++ (decimal b.thousandths ++ (codes " grams=" ++ signed_decimal (signed_grams (subtracted b.row) b.grams)))
+line_said : Booked → List ℕ
+line_said b = codes "thousandths=" ++ (decimal b.thousandths ++ (codes " grams=" ++ signed_decimal (signed_grams (subtracted b.row) b.grams)))
 
 outcome_only : (y : ℕ) (known : Map) (e : Entry) (p q : Result Booking Refusal) → Books y known e p → Books y known e q → outcome_said (Some p) ≡ outcome_said (Some q)
-unfolding numbers_said
-outcome_only y known e (Ok l) (Ok m) a b = ap numbers_said (one_line y known e l m a b)
+unfolding line_said
+outcome_only y known e (Ok l) (Ok m) a b = ap line_said (one_line y known e l m a b)
 outcome_only y known e (Ok l) (Err g) a b = absurd (not_both y known e l g a b)
 outcome_only y known e (Err f) (Ok m) a b = absurd (not_both y known e m f b a)
 outcome_only y known e (Err f) (Err g) a b = let same = one_refusal y known e f g a b in same_words f g same.0 same.1

@@ -25,7 +25,8 @@ pub fn listing(heap: Global, feed: &[u8]) -> Result<String, AllocError>
     Ok(text)
 }
 
-// The line for what is left of a feed where no note can be read any more.
+// The line for what is left of a feed where no note can be read any more. It takes the heap and the opening as `line` does:
+// a struct for the two would be no plainer.
 fn last_line(heap: Global, opening: &Opening, left: &Part) -> Result<String, AllocError>
     ensures { IfOk result (λ s. LastLine (account_of opening.now) left.now.place left.now.start left.now.bytes.now (string_bytes s)) }
 {
