@@ -1,5 +1,6 @@
 -- Which condition on an entry's content fails first. Assumes nothing.
-use Rattle.std.proofs.Common.{ℕ, T, [], ◌∷◌, arith}
+use Rattle.std.proofs.Common.{ℕ, [], ◌∷◌, arith}
+use Rattle.std.specs.Bool.{IsTrue}
 use Rattle.factors.specs.Maps.{Map}
 use Rattle.refusals.specs.Refusals.{Conditions, Kept, Least}
 use Rattle.refusals.proofs.Deciding.{least_on, least_here}
@@ -24,7 +25,7 @@ module _ (y : ℕ) (known : Map) (e : Entry) where
   factor_asked = Has (factor y known e)
 
   abbrev unit_asked : Type 0
-  unit_asked = T (unit_fits (reckoning e.head.row) (unit_of (factor y known e)))
+  unit_asked = IsTrue (unit_fits (reckoning e.head.row) (unit_of (factor y known e)))
 
   abbrev product_asked : Type 0
   product_asked = ProductRange (entry_product y known e)

@@ -1,8 +1,9 @@
 -- An entry whose row, span and quantity pass, at what its source answers. Assumes nothing.
-use Rattle.std.proofs.Common.{◌≡◌, ℕ, ◌*◌, ◌<◌, ◌≤◌, true, false, T, Result, pos, sym, ap, ◌∙◌, subst, arith}
+use Rattle.std.proofs.Common.{◌≡◌, ℕ, ◌*◌, ◌<◌, ◌≤◌, true, false, true≢false, Result, pos, sym, ap, ◌∙◌, subst, arith}
 use Rattle.exact.specs.Rounding.{rounded, WithinHalf}
 use Rattle.exact.proofs.Nearness.{rounded_near, rounded_most}
 use Rattle.factors.specs.Maps.{Map, has, lacks}
+use Rattle.std.specs.Bool.{IsTrue}
 use Rattle.std.specs.Result.{IsErrAnd}
 use Rattle.std.proofs.lemmas.Result.{err_from_is_err_and}
 use Rattle.refusals.specs.declared.refusal.Refusal.{Refusal}
@@ -61,7 +62,7 @@ module _ (y : ℕ) (known : Map) (e : Entry) where
           unit_is i = unit_fits (same i) (unit_of (sym is i))
 
           pub unit_refused : false ≡ unit_fits k u → Least (content y known e) 9
-          unit_refused f = unit_fails y known e row span_ok quantity has_ok (λ t. subst T (sym (f ∙ unit_is)) t)
+          unit_refused f = unit_fails y known e row span_ok quantity has_ok (λ t. true≢false (sym (f ∙ unit_is ∙ t)))
 
           module _ (fits : true ≡ unit_fits k u) (q m d : ℕ) (q_is : q ≡ booked_thousandths e.quantity) (m_is : m ≡ multiplier k y e.head.span) (d_is : d ≡ divisor k e.head.span) where
             product_is : product q a m ≡ entry_product y known e
@@ -70,8 +71,8 @@ module _ (y : ℕ) (known : Map) (e : Entry) where
             divisor_is : exact_divisor d ≡ entry_divisor y known e
             divisor_is i = exact_divisor ((d_is ∙ (λ j. divisor (same j) e.head.span)) i)
 
-            unit_ok : T (unit_fits (reckoning e.head.row) (unit_of (factor y known e)))
-            unit_ok = subst T (fits ∙ unit_is) tt
+            unit_ok : IsTrue (unit_fits (reckoning e.head.row) (unit_of (factor y known e)))
+            unit_ok = sym (fits ∙ unit_is)
 
             pub product_refused : (ProductRange (product q a m) → ⊥) → Least (content y known e) 10
             product_refused out = product_fails y known e row span_ok quantity has_ok unit_ok (λ l. out (subst ProductRange (sym product_is) l))

@@ -1,5 +1,5 @@
 -- What an entry comes to: why it is refused, its line, and its exact weight. Assumes nothing.
-use Rattle.std.specs.Prelude.{◌≡◌, ℕ, T, [], ◌∷◌, pos, IfErr, Ok, Err, Result}
+use Rattle.std.specs.Prelude.{◌≡◌, ℕ, IsTrue, [], ◌∷◌, pos, IfErr, Ok, Err, Result}
 use Rattle.exact.specs.Rounding.{Fraction, over, rounded}
 use Rattle.refusals.specs.declared.lacking.Lacking.{Lacking}
 use Rattle.refusals.specs.declared.refusal.Refusal.{Refusal}
@@ -66,7 +66,7 @@ module _ (y : ℕ) (known : Map) (e : Entry) where
       ∷ (6, SpanFits (reckoning e.head.row) e.head.span)
       ∷ (7, QuantityInRange e.quantity)
       ∷ (8, Has factor)
-      ∷ (9, T (unit_fits (reckoning e.head.row) (unit_of factor)))
+      ∷ (9, IsTrue (unit_fits (reckoning e.head.row) (unit_of factor)))
       ∷ (10, ProductRange entry_product)
       ∷ []
 

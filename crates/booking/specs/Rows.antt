@@ -1,5 +1,5 @@
 -- The twenty-two rows, by their numbers. Assumes nothing.
-use Rattle.std.specs.Prelude.{ℕ, Bool, cond, ◌&&◌, ◌||◌, ◌==◌, nat_le}
+use Rattle.std.specs.Prelude.{ℕ, Bool, if◌then◌else◌, ◌&&◌, ◌||◌, ◌==◌, nat_le}
 use Rattle.codes.specs.Ranges.{Within}
 use Rattle.booking.specs.declared.reckoning.Reckoning.{Reckoning}
 use Rattle.booking.specs.declared.reckoning.Reckoning.TheVariants.{Once, Hauled, Yearly, Renewed, Refilled}
@@ -43,7 +43,7 @@ stage_number D = 4
 
 -- stage 1 has the rows 1 and 2, stage 2 those up to 10, stage 3 those up to 21, and stage 4 the last
 abbrev pub stage : ℕ → ℕ
-stage row = cond (nat_le row 2) 1 (cond (nat_le row 10) 2 (cond (nat_le row 21) 3 4))
+stage row = if nat_le row 2 then 1 else (if nat_le row 10 then 2 else (if nat_le row 21 then 3 else 4))
 
 -- renewables on site and in use, and the sink
 abbrev pub subtracted : ℕ → Bool
@@ -52,7 +52,8 @@ subtracted row = row == 9 || (row == 19 || row == 20)
 -- haulage is reckoned by distance; what is used is reckoned by the year, but for renewal, refurbishment and refrigerant
 abbrev pub reckoning : ℕ → Reckoning
 reckoning row =
-    cond (row == 2 || row == 8) Hauled
-    (cond ((nat_le 11 row && nat_le row 16) || (row == 19 || row == 20)) Yearly
-    (cond (row == 17) Renewed
-    (cond (row == 21) Refilled Once)))
+    if row == 2 || row == 8 then Hauled
+    else (if (nat_le 11 row && nat_le row 16) || (row == 19 || row == 20) then Yearly
+    else (if row == 17 then Renewed
+    else (if row == 21 then Refilled
+    else Once)))

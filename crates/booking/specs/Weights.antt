@@ -1,5 +1,5 @@
 -- What thousandths of a unit weigh at tenths of a gram for each unit. Assumes nothing.
-use Rattle.std.specs.Prelude.{ℕ, ◌*◌, ◌≤◌, Bool, cond, ℤ, pos, neg_ℤ}
+use Rattle.std.specs.Prelude.{ℕ, ◌*◌, ◌≤◌, Bool, if◌then◌else◌, ℤ, pos, neg_ℤ}
 
 -- what is divided to give grams: q thousandths, at the amount f, m times
 abbrev pub product : ℕ → ℕ → ℕ → ℕ
@@ -17,4 +17,4 @@ GramsRange g = g ≤ 100000000000000
 
 -- grams as they count
 abbrev pub signed_grams : Bool → ℕ → ℤ
-signed_grams subtracted g = cond subtracted (neg_ℤ (pos g)) (pos g)
+signed_grams subtracted g = if subtracted then neg_ℤ (pos g) else pos g

@@ -1,5 +1,5 @@
 -- The built-in factors. Assumes nothing.
-use Rattle.std.specs.Prelude.{ℕ, ◌-◌, ◌*◌, cond, List, [], ◌∷◌, length, ◌==◌, nat_lt, slice_index}
+use Rattle.std.specs.Prelude.{ℕ, ◌-◌, ◌*◌, if◌then◌else◌, List, [], ◌∷◌, length, ◌==◌, nat_lt, slice_index}
 use Rattle.factors.specs.Maps.{Map, has, lacks}
 
 -- the warming of each refrigerant, as a multiple of carbon dioxide's
@@ -10,7 +10,7 @@ warming =
 -- grid electricity (1) in kilowatt-hours (3), and from 101 on the refrigerants in kilograms (4)
 abbrev pub built_in : Map
 built_in c =
-    cond (c == 1) (has 5000 3)
-    (cond (nat_lt c 101) (lacks c)
-    (cond (nat_lt (c - 101) (length warming)) (has (slice_index warming (c - 101) * 10000) 4)
-    (lacks c)))
+    if c == 1 then has 5000 3
+    else (if nat_lt c 101 then lacks c
+    else (if nat_lt (c - 101) (length warming) then has (slice_index warming (c - 101) * 10000) 4
+    else lacks c))

@@ -1,5 +1,5 @@
 -- Sources over a source. Assumes nothing.
-use Rattle.std.specs.Prelude.{ℕ, ◌-◌, cond, ◌&&◌, ◌==◌, nat_lt}
+use Rattle.std.specs.Prelude.{ℕ, ◌-◌, if◌then◌else◌, ◌&&◌, ◌==◌, nat_lt}
 use Rattle.exact.specs.Rounding.{rounded}
 use Rattle.factors.specs.BuiltIn.{built_in}
 use Rattle.factors.specs.Maps.{Answer, Map, has, lacks}
@@ -16,9 +16,9 @@ with_defaults below c = or_else (below c) (built_in c)
 
 -- half of a factor per tonne, for the code c; there is none of a factor per anything else
 abbrev pub half : ℕ → Answer → Answer
-half c (has amount unit) = cond (unit == 1) (has (rounded amount 2) unit) (lacks c)
+half c (has amount unit) = if unit == 1 then has (rounded amount 2) unit else lacks c
 half c (lacks l) = lacks l
 
 -- recycled material has the code of the new material and 1,000,000, and half its amount
 abbrev pub with_recycled : Map → Map
-with_recycled below c = cond (nat_lt 1000000 c && nat_lt c 2000000) (half c (below (c - 1000000))) (below c)
+with_recycled below c = if nat_lt 1000000 c && nat_lt c 2000000 then half c (below (c - 1000000)) else below c

@@ -1,12 +1,12 @@
 -- What rows come to together. Assumes nothing.
-use Rattle.std.specs.Prelude.{ℕ, ◌+◌, Bool, cond, List, [], ◌∷◌, ℤ, pos, ◌+ℤ◌}
+use Rattle.std.specs.Prelude.{ℕ, ◌+◌, Bool, if◌then◌else◌, List, [], ◌∷◌, ℤ, pos, ◌+ℤ◌}
 use Rattle.totals.specs.declared.totals.Totals.{Totals}
 
 -- the sum of what stands in chosen rows, of values each with the number of its row
 module _ {X : Type 0} (none : X) (plus : X → X → X) (choice : ℕ → Bool) where
   unfoldable pub sum_in : List (ℕ × X) → X
   sum_in [] = none
-  sum_in (v ∷ vs) = cond (choice v.0) (plus v.1 (sum_in vs)) (sum_in vs)
+  sum_in (v ∷ vs) = if choice v.0 then plus v.1 (sum_in vs) else sum_in vs
 
 abbrev pub grams_in : (ℕ → Bool) → List (ℕ × ℤ) → ℤ
 grams_in choice = sum_in (pos 0) ◌+ℤ◌ choice
