@@ -1,4 +1,5 @@
 // The rows of a sheet: what an entry can be for.
+// Their conversions are written out, since an `impl` that a macro writes can promise nothing.
 ghost use Rattle.std.specs.Prelude.{◌≡◌};
 ghost use Rattle.booking.specs.Rows.{RowRange, row_number};
 ghost use Rattle.refusals.specs.declared.refusal.Refusal.TheVariants.{UnknownRow};

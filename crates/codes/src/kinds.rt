@@ -19,7 +19,7 @@ pub enum Kind {
 }
 
 impl Kind {
-    // How many bytes a note of this kind has.
+    // How many bytes a note of this kind has. For who writes notes: who reads them has each length in a type.
     pub fn length(self) -> usize
         ensures { result ≡ note_length (kind_number self) }
     {

@@ -27,7 +27,8 @@ pub struct Building {
     // the class of solar irradiation where it stands: a number, as the classes have no names
     pub sun: u16,
     pub building_type: BuildingType,
-    // the reference intensity, in tenths of a kilogram per square metre and year; 0 where there is none
+    // the reference intensity, in tenths of a kilogram per square metre and year; 0 where there is none: the field's range
+    // has the 0, and an `Option` would only say it another way
     pub reference: u16,
     ghost area_within: { AreaRange area },
     ghost life_within: { LifeRange life },

@@ -27,7 +27,7 @@ pub(crate) trait Content: Sized {
     ghost known: { (k : ℕ) → Wanted k → KindRange k };
 }
 
-// The first note of the bytes. Every reading of a note goes through here; its public names are the `read` of each type.
+// The first note of the bytes. Every reading of a note goes through here; its public names are `read` of a building, a factor row and a note.
 #[tactic(auto, using(crate::proofs::Reading::headed, crate::proofs::Reading::reads_alone))]
 pub(crate) fn read<T: Content>(bytes: &[u8]) -> Result<T, Refusal>
     ensures value { Reads T.Wanted T.Says bytes.now result }

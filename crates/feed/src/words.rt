@@ -1,4 +1,5 @@
-// Notes in words: a kind, and its fields by name. A kind that is fixed is written out, and by the clauses its word is that of `Kind`.
+// Notes in words: a kind, and its fields by name. A kind that is fixed is written out, so that a format
+// reads as its line does; by the clauses its word is that of `Kind`.
 ghost use Rattle.std.specs.Prelude.{Some};
 ghost use Rattle.feed.specs.Buildings.{numbers_of};
 ghost use Rattle.feed.specs.Entries.{entry_kind};

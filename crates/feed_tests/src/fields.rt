@@ -155,18 +155,18 @@ fn trailing_bytes(rt: HostRuntime) -> Result<(), Fail> {
 // A row of a caller's list may be out of range, and then gives no factor.
 #[test]
 fn a_plain_row(rt: HostRuntime) {
-    let cases: [(u32, u16, bool); 4] = [
-        (1_000_000_000, 7, true),
-        (1_000_000_001, 7, false),
-        (0, 0, false),
-        (0, 8, false),
+    let cases: [(u32, u16, Option<u8>); 4] = [
+        (1_000_000_000, 7, None),
+        (1_000_000_001, 7, Some(4)),
+        (0, 0, Some(4)),
+        (0, 8, Some(4)),
     ];
-    for (amount, unit, good) in cases {
+    for (amount, unit, expected) in cases {
         let row = FactorRow {
             code: 1,
             amount,
             unit,
         };
-        assert_eq!(rt; Factor::try_from(row).is_ok(), good, "{amount}");
+        assert_eq!(rt; refused(Factor::try_from(row)), expected, "{amount}");
     }
 }

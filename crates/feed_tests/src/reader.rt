@@ -38,6 +38,7 @@ fn cut_at_every_length(rt: HostRuntime) -> Result<(), Fail> {
             end = next;
             notes = place;
         }
+        // refused by number 1, as the documents have it
         let expected = if n == end { Ok(None) } else { Err(1) };
         for _ in 0..3 {
             assert_eq!(rt; reader.next().map_err(Refusal::number), expected);
