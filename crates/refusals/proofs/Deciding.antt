@@ -4,11 +4,15 @@ use Rattle.std.proofs.str.Laws.{order}
 use Rattle.refusals.specs.declared.refusal.Refusal.{Refusal}
 use Rattle.refusals.specs.Refusals.{Conditions, Kept, Broken, Least, Decided}
 
-kept_both : (cs ds : Conditions) → Kept cs → Kept ds → Kept (cs ++ ds)
+pub kept_both : (cs ds : Conditions) → Kept cs → Kept ds → Kept (cs ++ ds)
 kept_both [] ds k l = l
 kept_both (c ∷ cs) ds k l = (k.0, kept_both cs ds k.1 l)
 
-kept_right : (cs ds : Conditions) → Kept (cs ++ ds) → Kept ds
+pub kept_left : (cs ds : Conditions) → Kept (cs ++ ds) → Kept cs
+kept_left [] ds k = tt
+kept_left (c ∷ cs) ds k = (k.0, kept_left cs ds k.1)
+
+pub kept_right : (cs ds : Conditions) → Kept (cs ++ ds) → Kept ds
 kept_right [] ds k = k
 kept_right (c ∷ cs) ds k = kept_right cs ds k.1
 
@@ -17,12 +21,12 @@ unbroken [] k n b = b
 unbroken (c ∷ cs) k n (inl e) = e.1 k.0
 unbroken (c ∷ cs) k n (inr b) = unbroken cs k.1 n b
 
-broken_either : (cs ds : Conditions) (n : ℕ) → Broken (cs ++ ds) n → Broken cs n ⊎ Broken ds n
+pub broken_either : (cs ds : Conditions) (n : ℕ) → Broken (cs ++ ds) n → Broken cs n ⊎ Broken ds n
 broken_either [] ds n b = inr b
 broken_either (c ∷ cs) ds n (inl e) = inl (inl e)
 broken_either (c ∷ cs) ds n (inr b) = ⊎_elim (λ a. inl (inr a)) inr (broken_either cs ds n b)
 
-broken_left : (cs ds : Conditions) (n : ℕ) → Broken cs n → Broken (cs ++ ds) n
+pub broken_left : (cs ds : Conditions) (n : ℕ) → Broken cs n → Broken (cs ++ ds) n
 broken_left [] ds n b = absurd b
 broken_left (c ∷ cs) ds n (inl e) = inl e
 broken_left (c ∷ cs) ds n (inr b) = inr (broken_left cs ds n b)
@@ -36,7 +40,7 @@ abbrev pub BelowAll : ℕ → Conditions → Type 0
 BelowAll k [] = Unit {0}
 BelowAll k (c ∷ cs) = (k < c.0) × BelowAll k cs
 
-unbroken_below : (k : ℕ) (cs : Conditions) → BelowAll k cs → (n : ℕ) → n < k → Broken cs n → ⊥
+pub unbroken_below : (k : ℕ) (cs : Conditions) → BelowAll k cs → (n : ℕ) → n < k → Broken cs n → ⊥
 unbroken_below k [] below n l b = b
 unbroken_below k (c ∷ cs) below n l b = ⊎_elim (λ e. omega (arith, e.0, below.0)) (unbroken_below k cs below.1 n l) b
 

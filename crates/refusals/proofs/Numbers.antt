@@ -2,7 +2,7 @@
 use Rattle.std.proofs.Common.{◌≡◌, [], ◌++◌, codes, decimal, refl, arith}
 use Rattle.refusals.specs.declared.lacking.Lacking.{Lacking}
 use Rattle.refusals.specs.declared.refusal.Refusal.{Refusal}
-use Rattle.refusals.specs.declared.refusal.Refusal.TheVariants.{Unframed, UnwantedKind, WrongLength, OutOfRange, UnknownRow, UnfitSpan, UnfitQuantity, FactorLacking, UnfitUnit, TooLarge}
+use Rattle.refusals.specs.declared.refusal.Refusal.TheVariants.{Unframed, UnwantedKind, WrongLength, OutOfRange, UnknownRow, UnfitSpan, UnfitQuantity, FactorLacking, UnfitUnit, TooLarge, TooFewPlaces, Superseded, Contradicted, BookFull}
 use Rattle.refusals.specs.Refusals.{refusal_number, refusal_codes}
 use Rattle.refusals.specs.Texts.{codes_said, refusal_said}
 
@@ -17,6 +17,10 @@ number_one UnfitQuantity e = absurd (omega arith)
 number_one (FactorLacking l) e = absurd (omega arith)
 number_one UnfitUnit e = absurd (omega arith)
 number_one TooLarge e = absurd (omega arith)
+number_one TooFewPlaces e = absurd (omega arith)
+number_one Superseded e = absurd (omega arith)
+number_one Contradicted e = absurd (omega arith)
+number_one BookFull e = absurd (omega arith)
 
 -- a lack alone names codes
 pub no_codes : (f : Refusal) → (refusal_number f ≡ 8 → ⊥) → refusal_codes f ≡ []
@@ -30,6 +34,10 @@ no_codes UnfitQuantity other = refl
 no_codes (FactorLacking l) other = absurd (other refl)
 no_codes UnfitUnit other = refl
 no_codes TooLarge other = refl
+no_codes TooFewPlaces other = refl
+no_codes Superseded other = refl
+no_codes Contradicted other = refl
+no_codes BookFull other = refl
 
 pub number_eight : (f : Refusal) → refusal_number f ≡ 8 → (l : Lacking) × (f ≡ FactorLacking l)
 number_eight Unframed e = absurd (omega arith)
@@ -42,6 +50,10 @@ number_eight UnfitQuantity e = absurd (omega arith)
 number_eight (FactorLacking l) e = (l, refl)
 number_eight UnfitUnit e = absurd (omega arith)
 number_eight TooLarge e = absurd (omega arith)
+number_eight TooFewPlaces e = absurd (omega arith)
+number_eight Superseded e = absurd (omega arith)
+number_eight Contradicted e = absurd (omega arith)
+number_eight BookFull e = absurd (omega arith)
 
 -- a refusal's words depend on its number and its codes alone
 pub same_words : (f g : Refusal) → refusal_number f ≡ refusal_number g → refusal_codes f ≡ refusal_codes g → refusal_said f ≡ refusal_said g

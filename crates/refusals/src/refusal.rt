@@ -30,6 +30,14 @@ pub enum Refusal {
     UnfitUnit,
     // Thousandths, amount and multiplier make a product above 10^18, before anything is divided.
     TooLarge,
+    // A page is lent fewer places than it has headings.
+    TooFewPlaces,
+    // The sheet holds a higher revision under the number, or the same one with an equal line.
+    Superseded,
+    // The sheet holds the same revision under the number, with another line.
+    Contradicted,
+    // The number is new, and every place of the book is taken.
+    BookFull,
 }
 
 impl Refusal {
@@ -48,6 +56,10 @@ impl Refusal {
             Refusal::FactorLacking(_) => 8,
             Refusal::UnfitUnit => 9,
             Refusal::TooLarge => 10,
+            Refusal::TooFewPlaces => 11,
+            Refusal::Superseded => 21,
+            Refusal::Contradicted => 22,
+            Refusal::BookFull => 23,
         }
     }
 }
