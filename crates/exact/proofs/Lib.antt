@@ -1,2 +1,3 @@
-mod Products
+pub mod Halves
 pub mod Nearness
+pub mod Products

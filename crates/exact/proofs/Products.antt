@@ -20,13 +20,13 @@ apart a (pos (suc j)) k = ap (λ z. z *ℤ pos k) (+ℤ-suc_ℤ a (pos j)) ∙ s
 apart a (negsuc zero) k = ap (λ z. z *ℤ pos k) (-ℤ_one a) ∙ pred_ℤ-*ℤ a (pos k) ∙ omega (arith, ints)
 apart a (negsuc (suc j)) k = ap (λ z. z *ℤ pos k) (+ℤ-pred_ℤ a (negsuc j)) ∙ pred_ℤ-*ℤ (a +ℤ negsuc j) (pos k) ∙ omega (arith, ints, apart a (negsuc j) k)
 
-negated : (n k : ℕ) → neg_ℤ (pos n) *ℤ pos k ≡ neg_ℤ (pos (n * k))
-negated zero k = omega (arith, ints)
-negated (suc n) k = omega (arith, ints)
+pub negative_natural : (n k : ℕ) → neg_ℤ (pos n) *ℤ pos k ≡ neg_ℤ (pos (n * k))
+negative_natural zero k = omega (arith, ints)
+negative_natural (suc n) k = omega (arith, ints)
 
 pub crossed : (a : ℤ) (j k : ℕ) → a *ℤ pos j *ℤ pos k ≡ a *ℤ pos (j * k)
 crossed (pos a) j k = omega (arith, ints)
-crossed (negsuc a) j k = negated (suc a * j) k ∙ omega (arith, ints)
+crossed (negsuc a) j k = negative_natural (suc a * j) k ∙ omega (arith, ints)
 
 -- one more than r, or further
 pub step : (r s : ℤ) (k : ℕ) → r <ℤ s → (r *ℤ pos k +ℤ pos k) ≤ℤ (s *ℤ pos k)
