@@ -7,4 +7,5 @@ pub mod Frames
 pub mod Heads
 pub mod Notes
 pub mod Readings
+pub mod Sendings
 pub mod Words

@@ -9,4 +9,5 @@ pub mod frame;
 mod little;
 pub mod note;
 pub mod reader;
+pub mod sent;
 mod words;
