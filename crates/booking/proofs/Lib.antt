@@ -1,4 +1,5 @@
 mod Contents
+pub mod Kept
 mod Measures
 mod Patterns
 pub mod Single

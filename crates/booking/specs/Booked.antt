@@ -47,7 +47,7 @@ pub record Booked : Type 0 where
 abbrev pub line_numbers : Line → Booked
 line_numbers l = record { row = row_number l.row; span = l.span; code = l.code; thousandths = l.thousandths; grams = l.grams }
 
--- an entry in a building of y years, at the factors of a map
+-- an entry in a building with a life of y years, at the factors of a map
 module _ (y : ℕ) (known : Map) (e : Entry) where
   abbrev pub factor : Answer
   factor = known e.head.code
@@ -70,7 +70,7 @@ module _ (y : ℕ) (known : Map) (e : Entry) where
       ∷ (10, ProductRange entry_product)
       ∷ []
 
-  -- its exact weight in grams
+  -- its exact weight in grams, of its booked thousandths
   abbrev pub exact_grams : Fraction
   exact_grams = over (pos entry_product) entry_divisor
 

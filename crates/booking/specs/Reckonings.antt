@@ -12,7 +12,7 @@ SpanFits Yearly s = Within 0 s 0
 SpanFits Renewed s = Within 1 s 100
 SpanFits Refilled s = Within 1 s 100
 
--- how often an entry counts
+-- what an entry is multiplied by: its kilometres, or how often it comes in the building's life; a part that is renewed comes a whole number of times
 abbrev pub multiplier : Reckoning → ℕ → ℕ → ℕ
 multiplier Once y s = 1
 multiplier Hauled y s = s

@@ -1,6 +1,6 @@
 // The rows of a sheet: what an entry can be for.
 // Their conversions are written out, since an `impl` that a macro writes can promise nothing.
-ghost use Rattle.std.specs.Prelude.{◌≡◌};
+ghost use Rattle.std.specs.Prelude.{◌≡◌, ◌-◌};
 ghost use Rattle.booking.specs.Rows.{RowRange, row_number};
 ghost use Rattle.refusals.specs.declared.refusal.Refusal.TheVariants.{UnknownRow};
 ghost use Rattle.refusals.specs.Refusals.{Judged};
@@ -34,7 +34,7 @@ pub enum Row {
 }
 
 impl Row {
-    // Every row, in the order of their numbers. For pages, which nothing draws yet.
+    // Every row, in the order of their numbers.
     pub const ALL: [Row; 22] = [
         Row::Production,
         Row::Haulage,
@@ -59,6 +59,13 @@ impl Row {
         Row::Refrigerant,
         Row::Demolition,
     ];
+
+    // Where it stands among all of them, from 0.
+    pub fn index(self) -> usize
+        ensures { result ≡ row_number self - 1 }
+    {
+        usize::from(u16::from(self)) - 1
+    }
 }
 
 impl TryFrom<u16> for Row {
