@@ -1,4 +1,4 @@
-// The one value that pages and grades will be drawn from.
+// The one value that pages and grades are drawn from.
 ghost use Rattle.std.specs.Prelude.{◌≤◌, sum_by, sum, unsigned_abs};
 
 // How many rows a sheet has.

@@ -1,20 +1,24 @@
 // The cut by row: each row is a heading of its own.
+ghost use Rattle.std.specs.Prelude.{refl};
 ghost use Rattle.pages.specs.Cuts.{by_row};
+ghost use Rattle.pages.specs.CutLaws.{by_row_lawful};
 
 use crate::cut::Cut;
 use booking::Row;
 
-#[derive(Clone, Copy)]
+#[derive(Clone, Copy, Debug, PartialEq, Eq)]
 pub struct ByRow;
 
 impl Cut for ByRow {
     const HEADINGS: usize = 22;
 
+    ghost HEADINGS = { 22 };
+
     ghost assignment = { λ _. by_row };
 
-    fn size(&self) -> usize {
-        Self::HEADINGS
-    }
+    ghost sized = { λ _. refl };
+
+    ghost lawful = { λ _. by_row_lawful };
 
     fn heading(&self, row: Row) -> usize {
         usize::from(u16::from(row))

@@ -1,5 +1,6 @@
 -- A page: what it prints under the headings of a cut. Assumes nothing.
-use Rattle.std.specs.Prelude.{◌≡◌, ℕ, ◌+◌, ◌-◌, ◌<◌, ◌≤◌, Bool, true, List, [], ◌∷◌, length, drop, ℤ, ◌-ℤ◌, Ok, Err, Result, nat_eq, nat_le, slice_index_or}
+use Rattle.std.specs.Prelude.{◌≡◌, ℕ, ◌-◌, ◌≤◌, Bool, true, ◌&&◌, List, [], ◌∷◌, ◌++◌, length, take, drop, map, sum_by, ℤ, pos, ◌+ℤ◌, ◌-ℤ◌, ◌*ℤ◌, ◌<ℤ◌, Ok, Err, Result, nat_eq, nat_le, nat_lt}
+use Rattle.std.specs.List.{range_with_len}
 use Rattle.exact.specs.Rounding.{over, nearest}
 use Rattle.refusals.specs.declared.refusal.Refusal.{Refusal}
 use Rattle.refusals.specs.Refusals.{Conditions, Decided}
@@ -26,26 +27,47 @@ heading_figure cut sums k = record {
   count = (under cut sums).counts (λ h. nat_eq h k);
 }
 
+-- the figures of all headings, in their order
+unfoldable pub page_figures : Assignment → Sums → List Figure
+page_figures cut sums = map (heading_figure cut sums) (range_with_len 1 cut.size)
+
 -- the figure of the total, over every row
 abbrev pub total_figure : Sums → Figure
 total_figure sums = record { kilograms = kilograms (sums.grams (λ row. true)); count = sums.counts (λ row. true) }
-
--- the places of a page before and after it is written: a figure for each heading, and no other place is touched
-pub record Written (cut : Assignment) (sums : Sums) (before after : List Figure) : Type 0 where
-  pub long : length after ≡ length before
-  pub headings : (k : ℕ) (d : Figure) → k < cut.size → slice_index_or after k d ≡ heading_figure cut sums (k + 1)
-  pub others : drop cut.size after ≡ drop cut.size before
 
 -- a page needs a place for each heading
 abbrev pub room : Assignment → List Figure → Conditions
 room cut before = (11, cut.size ≤ length before) ∷ []
 
--- what is left in the places, by the answer
+-- what is left in the places: a figure for each heading and the other places untouched, or all of them untouched
 abbrev pub Leaves : Assignment → Sums → List Figure → Result Figure Refusal → List Figure → Type 0
-Leaves cut sums before (Ok total) after = Written cut sums before after
+Leaves cut sums before (Ok total) after = after ≡ page_figures cut sums ++ drop cut.size before
 Leaves cut sums before (Err f) after = after ≡ before
 
 -- r is what writing a page answers, and after is what the places then hold
 pub record Writes (cut : Assignment) (sums : Sums) (before : List Figure) (r : Result Figure Refusal) (after : List Figure) : Type 0 where
   pub answer : Decided (room cut before) (λ total. total ≡ total_figure sums) r
   pub places : Leaves cut sums before r after
+
+-- the kilograms of figures, added as they are printed
+abbrev pub printed : List Figure → ℤ
+printed [] = pos 0
+printed (f ∷ fs) = f.kilograms +ℤ printed fs
+
+-- the headings after i and up to j
+abbrev pub run : ℕ → ℕ → ℕ → Bool
+run i j h = nat_lt i h && nat_le h j
+
+-- their figures
+abbrev pub between : ℕ → ℕ → List Figure → List Figure
+between i j fs = take (j - i) (drop i fs)
+
+-- the figures of a page add exactly to its total, in kilograms and in counts
+pub record AddUp (fs : List Figure) (total : Figure) : Type 0 where
+  pub kilograms : printed fs ≡ total.kilograms
+  pub counts : sum_by (λ f. f.count) fs ≡ total.count
+
+-- kilograms, taken in grams, lie less than a kilogram from the grams g
+pub record NearGrams (kg g : ℤ) : Type 0 where
+  pub least : g <ℤ (pos 1000 *ℤ kg +ℤ pos 1000)
+  pub most : (pos 1000 *ℤ kg) <ℤ (g +ℤ pos 1000)

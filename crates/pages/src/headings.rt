@@ -5,19 +5,18 @@ ghost use Rattle.pages.specs.Pages.{under};
 
 use crate::cut::Cut;
 use booking::Row;
-use totals::Totals;
+use totals::{ROWS, Totals};
 
 // The totals of the rows, added up by heading in one pass: what stands first is the first heading's.
 pub(crate) fn by_heading<C: Cut>(totals: Totals, cut: &C) -> Totals
-    ensures { sums_of result ≡ under (C.Cut.assignment cut.now) (sums_of totals) }
+    ensures { sums_of result ≡ under (C.assignment cut.now) (sums_of totals) }
 {
-    let mut grams = [0; 22];
-    let mut counts = [0; 22];
-    for row in Row::ALL {
-        let from = usize::from(u16::from(row)) - 1;
-        let to = cut.heading(row) - 1;
-        grams[to] += totals.grams[from];
-        counts[to] += totals.counts[from];
+    let mut grams = [0; ROWS];
+    let mut counts = [0; ROWS];
+    for at in 0..ROWS {
+        let heading = cut.heading(Row::ALL[at]) - 1;
+        grams[heading] += totals.grams[at];
+        counts[heading] += totals.counts[at];
     }
     Totals { grams, counts }
 }

@@ -1,20 +1,24 @@
 // The cut by stage of the building's life.
+ghost use Rattle.std.specs.Prelude.{refl};
 ghost use Rattle.pages.specs.Cuts.{by_stage};
+ghost use Rattle.pages.specs.CutLaws.{by_stage_lawful};
 
 use crate::cut::Cut;
 use booking::Row;
 
-#[derive(Clone, Copy)]
+#[derive(Clone, Copy, Debug, PartialEq, Eq)]
 pub struct ByStage;
 
 impl Cut for ByStage {
     const HEADINGS: usize = 4;
 
+    ghost HEADINGS = { 4 };
+
     ghost assignment = { λ _. by_stage };
 
-    fn size(&self) -> usize {
-        Self::HEADINGS
-    }
+    ghost sized = { λ _. refl };
+
+    ghost lawful = { λ _. by_stage_lawful };
 
     fn heading(&self, row: Row) -> usize {
         row.rule().stage as usize

@@ -1,14 +1,15 @@
 // The cut by type of emission.
-ghost use Rattle.std.specs.Prelude.{◌≡◌};
+ghost use Rattle.std.specs.Prelude.{◌≡◌, refl};
 ghost use Rattle.booking.specs.Rows.{row_number};
 ghost use Rattle.pages.specs.Cuts.{by_type};
 ghost use Rattle.pages.specs.Types.{type_number, emission_type};
+ghost use Rattle.pages.specs.CutLaws.{by_type_lawful};
 
 use crate::cut::Cut;
 use booking::Row;
 
 // What is burnt or leaks in use, what is used that others make, what is built in, and what is taken up.
-#[derive(Clone, Copy)]
+#[derive(Clone, Copy, Debug, PartialEq, Eq)]
 pub enum EmissionType {
     Direct = 1,
     Indirect = 2,
@@ -16,17 +17,19 @@ pub enum EmissionType {
     Sink = 4,
 }
 
-#[derive(Clone, Copy)]
+#[derive(Clone, Copy, Debug, PartialEq, Eq)]
 pub struct ByType;
 
 impl Cut for ByType {
     const HEADINGS: usize = 4;
 
+    ghost HEADINGS = { 4 };
+
     ghost assignment = { λ _. by_type };
 
-    fn size(&self) -> usize {
-        Self::HEADINGS
-    }
+    ghost sized = { λ _. refl };
+
+    ghost lawful = { λ _. by_type_lawful };
 
     fn heading(&self, row: Row) -> usize {
         emission_type(row) as usize

@@ -1,8 +1,8 @@
 // The page writer, one for every cut.
-ghost use Rattle.std.specs.Prelude.{◌≡◌};
+ghost use Rattle.std.specs.Prelude.{◌≡◌, ℕ, ◌≤◌, IfOk};
 ghost use Rattle.exact.specs.Rounding.{nearest, over};
 ghost use Rattle.totals.specs.Sums.{sums_of};
-ghost use Rattle.pages.specs.Pages.{Writes};
+ghost use Rattle.pages.specs.Pages.{Writes, AddUp, NearGrams, page_figures, under, printed, between, run};
 
 use crate::cut::Cut;
 use crate::figure::Figure;
@@ -17,10 +17,11 @@ const KILOGRAM: u32 = 1_000;
 // Writes the figure of each heading into the first places, as many as the cut has headings, and answers the total.
 // The running sum of grams is rounded, and a heading is what its rounded running sum is more than the one before: so the headings add up to the total, whatever each of them would be rounded to alone.
 pub fn write<C: Cut>(totals: Totals, cut: &C, figures: &mut [Figure]) -> Result<Figure, Refusal>
-    ensures { Writes (C.Cut.assignment cut.now) (sums_of totals) figures.old result figures.new }
+    ensures value { Writes (C.assignment cut.now) (sums_of totals) figures.old result figures.new }
+    ensures adds { IfOk result (λ total. AddUp (page_figures (C.assignment cut.now) (sums_of totals)) total) }
+    ensures near { (i j : ℕ) → i ≤ j → j ≤ C.HEADINGS → NearGrams (printed (between i j (page_figures (C.assignment cut.now) (sums_of totals)))) ((under (C.assignment cut.now) (sums_of totals)).grams (run i j)) }
 {
-    let headings = cut.size();
-    if figures.len() < headings {
+    if figures.len() < C::HEADINGS {
         return Err(Refusal::TooFewPlaces);
     }
     let sums = by_heading(totals, cut);
@@ -29,7 +30,7 @@ pub fn write<C: Cut>(totals: Totals, cut: &C, figures: &mut [Figure]) -> Result<
         kilograms: 0,
         count: 0,
     };
-    for k in 0..headings {
+    for k in 0..C::HEADINGS {
         running += sums.grams[k];
         let kilograms = in_kilograms(running);
         figures[k] = Figure {

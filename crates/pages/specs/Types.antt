@@ -1,5 +1,5 @@
 -- The types of emission. Assumes nothing.
-use Rattle.std.specs.Prelude.{ℕ, cond, ◌||◌, ◌==◌}
+use Rattle.std.specs.Prelude.{ℕ, if◌then◌else◌, ◌||◌, ◌==◌}
 use Rattle.pages.specs.declared.by_type.EmissionType.{EmissionType}
 use Rattle.pages.specs.declared.by_type.EmissionType.TheVariants.{Direct, Indirect, Embodied, Sink}
 
@@ -12,6 +12,7 @@ type_number Sink = 4
 -- what is burnt in the building and the refrigerant are direct; what is bought, water and renewables in use are indirect; the sink is a type of its own; all else is embodied
 abbrev pub emission_type : ℕ → ℕ
 emission_type row =
-    cond (row == 11 || (row == 14 || row == 21)) 1
-    (cond (row == 12 || (row == 13 || (row == 15 || row == 19))) 2
-    (cond (row == 20) 4 3))
+    if row == 11 || (row == 14 || row == 21) then 1
+    else (if row == 12 || (row == 13 || (row == 15 || row == 19)) then 2
+    else (if row == 20 then 4
+    else 3))

@@ -1,3 +1,4 @@
 pub mod Types
 pub mod Cuts
+pub mod CutLaws
 pub mod Pages

@@ -1,0 +1,5 @@
+pub mod Heading
+pub mod Parts
+pub mod Telescope
+pub mod Nearby
+pub mod Drawing
