@@ -1,0 +1,5 @@
+mod Added
+mod Awarding
+mod Energy
+mod First
+mod Ratio

@@ -1,0 +1,10 @@
+use Rattle.std.proofs.Common.{◌≡◌, map, drop}
+use Rattle.feed.specs.Buildings.{numbers_of}
+use Rattle.grades.specs.Limits.{limit}
+use Rattle.grades.specs.Rows.{row_numbers}
+use Rattle.grades.proofs.limits.limit.Given as goal
+
+-- no row so far is for the building
+abbrev pub invariant-loop-row : goal.invariant-loop-row
+invariant-loop-row l =
+    limit (map row_numbers (drop l.row-index l.table)) (numbers_of l.building) ≡ limit (map row_numbers l.initial.table) (numbers_of l.initial.building)

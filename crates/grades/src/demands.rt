@@ -1,0 +1,59 @@
+// What a grade demands: a limit, or a ratio to the building's reference.
+ghost use Rattle.std.specs.Prelude.{◌≡◌, ◌≤◌, ◌↔◌, IsTrue, pos, unsigned_abs};
+ghost use Rattle.feed.specs.Buildings.{numbers_of};
+ghost use Rattle.grades.specs.Grades.{grams_over_life, LimitHolds, RatioHolds, Meets};
+ghost use Rattle.grades.specs.Sizes.{WithinTotals};
+
+use codes::BuildingType;
+use feed::building::Building;
+
+// Tenths of a kilogram per square metre are so many grams per tenth of a square metre.
+const GRAMS: u64 = 10;
+
+// The reference of a building that has none.
+const NO_REFERENCE: u16 = 0;
+
+// The whole of a reference, in per cent.
+const WHOLE: u16 = 100;
+
+// Whether the limit holds or the ratio does.
+pub(crate) fn meets(limit: Option<u16>, ratio: u16, building: &Building, weight: i64) -> bool
+    requires share { ratio ≤ 100 }
+    requires within { WithinTotals weight }
+    ensures { IsTrue result ↔ Meets limit ratio (numbers_of building.now) weight }
+{
+    limit_holds(limit, building, weight) || ratio_holds(ratio, building, weight)
+}
+
+// Where there is no limit, none holds.
+fn limit_holds(limit: Option<u16>, building: &Building, weight: i64) -> bool
+    ensures { IsTrue result ↔ LimitHolds limit (numbers_of building.now) weight }
+{
+    match limit {
+        Some(limit) => weight <= grams_over_life(building, limit),
+        None => false,
+    }
+}
+
+// Homes, and buildings with no reference, have only the limit.
+fn ratio_holds(ratio: u16, building: &Building, weight: i64) -> bool
+    requires share { ratio ≤ 100 }
+    requires within { WithinTotals weight }
+    ensures { IsTrue result ↔ RatioHolds ratio (numbers_of building.now) weight }
+{
+    if building.building_type == BuildingType::Residential || building.reference == NO_REFERENCE {
+        return false;
+    }
+    let left = WHOLE - ratio;
+    i64::from(WHOLE) * weight <= i64::from(left) * grams_over_life(building, building.reference)
+}
+
+// An intensity over the building's area and its years, in grams.
+fn grams_over_life(building: &Building, intensity: u16) -> i64
+    ensures value { result ≡ pos (grams_over_life (numbers_of building.now) intensity) }
+    ensures within { unsigned_abs result ≤ 10000000000000000 }
+{
+    let yearly = GRAMS * u64::from(intensity) * u64::from(building.area);
+    let all = yearly * u64::from(building.life);
+    all as i64
+}

@@ -1,0 +1,12 @@
+// How low in carbon a building is, by the energy that its use takes.
+#![tactic(auto)]
+
+mod award;
+mod demands;
+mod grading;
+mod limits;
+mod ratios;
+mod weight;
+
+pub use award::grade;
+pub use grading::Grade;
