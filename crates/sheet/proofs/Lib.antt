@@ -1,0 +1,9 @@
+pub mod Places
+pub mod Sending
+pub mod Deciders
+pub mod Rolling
+pub mod Standing
+pub mod Exactly
+pub mod Tallying
+pub mod Lawful
+pub mod Accounting

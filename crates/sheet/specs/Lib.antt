@@ -1,0 +1,9 @@
+pub mod Places
+pub mod Placing
+pub mod Notes
+pub mod States
+pub mod Rolls
+pub mod Lines
+pub mod Histories
+pub mod Laws
+pub mod Accounts

@@ -1,0 +1,49 @@
+-- Which lines a book lets in, and where they go. Assumes nothing.
+use Rattle.std.specs.Prelude.{◌≡◌, ℕ, ◌<◌, ◌⊎◌, if◌then◌else◌, List, [], ◌∷◌, ◌++◌, length, map, Some, None, Option, ◌==◌}
+use Rattle.refusals.specs.Refusals.{Conditions}
+use Rattle.booking.specs.Booked.{Booked}
+use Rattle.sheet.specs.Places.{Taken}
+
+-- two lines are equal: both are withdrawn, or row, span, code and booked thousandths agree
+abbrev pub EqualLines : Option Booked → Option Booked → Type 0
+EqualLines None None = Unit {0}
+EqualLines None (Some b) = ⊥
+EqualLines (Some a) None = ⊥
+EqualLines (Some a) (Some b) = (a.row ≡ b.row) × (a.span ≡ b.span) × (a.code ≡ b.code) × (a.thousandths ≡ b.thousandths)
+
+-- what is held under a number
+abbrev pub under : ℕ → List Taken → Option Taken
+under k [] = None
+under k (t ∷ ts) = if t.number == k then Some t else under k ts
+
+-- new is ahead of what is held under its number: of this neither the revision is higher, nor are the revision and the line the same
+abbrev pub Ahead : Taken → Option Taken → Type 0
+Ahead new None = Unit {0}
+Ahead new (Some old) = (new.revision < old.revision → ⊥) × (new.revision ≡ old.revision → EqualLines new.line old.line → ⊥)
+
+-- new does not contradict what is held under its number: where the revision is the same, the line is
+abbrev pub Agrees : Taken → Option Taken → Type 0
+Agrees new None = Unit {0}
+Agrees new (Some old) = new.revision ≡ old.revision → EqualLines new.line old.line
+
+-- what is asked of a line, by what is held under its number
+abbrev pub replacing : Taken → Option Taken → Conditions
+replacing new old = (21, Ahead new old) ∷ (22, Agrees new old) ∷ []
+
+-- the number k is among these
+abbrev pub Among : ℕ → List ℕ → Type 0
+Among k [] = ⊥
+Among k (j ∷ js) = (j ≡ k) ⊎ Among k js
+
+-- there is a place for the number k where these have theirs: its own, or one of the 512
+abbrev pub Room : List ℕ → ℕ → Type 0
+Room ks k = Among k ks ⊎ (length ks < 512)
+
+-- what is asked of a line that is let into a book
+abbrev pub placing : List Taken → Taken → Conditions
+placing held new = replacing new (under new.number held) ++ ((23, Room (map (λ t. t.number) held) new.number) ∷ [])
+
+-- the book with the line new: it stands in the place of the line under its number, or in the next place where there is none
+abbrev pub placed : Taken → List Taken → List Taken
+placed new [] = new ∷ []
+placed new (t ∷ ts) = if t.number == new.number then new ∷ ts else t ∷ placed new ts

@@ -1,0 +1,33 @@
+// One sheet, from its opening to a page and its grade.
+ghost use Rattle.std.specs.Prelude.{◌≡◌, List, ◌∷◌, reverse, map, take, IfOk};
+ghost use Rattle.feed.specs.Buildings.{numbers_of};
+ghost use Rattle.grades.specs.Grades.{grade_number};
+ghost use Rattle.sheet.specs.Accounts.{Accounted};
+ghost use Rattle.sheet.specs.Laws.{LawfulPage, LawfulGrade};
+
+use crate::sheet::Sheet;
+use factors::FactorSource;
+use feed::building::Building;
+use grades::Grade;
+use pages::{Cut, Figure};
+use refusals::Refusal;
+
+// A page by a cut and the grade, of a sheet that was sent all of these, whatever it answered to them.
+pub fn account<S: FactorSource + Drop, C: Cut>(
+    building: Building,
+    source: S,
+    sends: &[&[u8]],
+    cut: &C,
+    figures: &mut [Figure],
+) -> (Result<Figure, Refusal>, Grade)
+    ensures run { Accounted (numbers_of building) (S.known source) (map (λ bytes. bytes.now) sends.now) (C.assignment cut.now) figures.old result.0 figures.new (grade_number result.1) }
+    ensures page { IfOk result.0 (λ total. LawfulPage building.life (S.known source) (reverse (map (λ bytes. bytes.now) sends.now)) (C.assignment cut.now) (take (C.assignment cut.now).size figures.new) total) }
+    ensures grade { LawfulGrade (numbers_of building) (S.known source) (reverse (map (λ bytes. bytes.now) sends.now)) (grade_number result.1) }
+{
+    let mut sheet = Sheet::open(building, source);
+    for bytes in sends {
+        let _ = sheet.send(bytes);
+    }
+    let total = sheet.page(cut, figures);
+    (total, sheet.grade())
+}

@@ -1,0 +1,138 @@
+// A place of the book, and what a note puts into one.
+ghost use Rattle.std.specs.Prelude.{◌≡◌, Some, MatchBool, IfErr, option_map};
+ghost use Rattle.refusals.specs.Refusals.{Decided};
+ghost use Rattle.booking.specs.Booked.{line_numbers};
+ghost use Rattle.sheet.specs.Lines.{sound};
+ghost use Rattle.sheet.specs.Notes.{entry_asked, Named, sent_entry, sent_note, taken_of};
+ghost use Rattle.sheet.specs.Places.{record_numbers, held_line, taken_by};
+ghost use Rattle.sheet.specs.Placing.{EqualLines, replacing};
+
+use booking::{Line, Row};
+use factors::FactorSource;
+use feed::building::Building;
+use feed::sent::Sent;
+use refusals::Refusal;
+
+// What a booked line says. It keeps no range, so that places are plain records; whoever makes a line of it asks for the range.
+#[derive(Clone, Copy, Debug, PartialEq, Eq)]
+pub(crate) struct Record {
+    pub row: Row,
+    pub span: u16,
+    pub code: u32,
+    pub thousandths: u64,
+    pub grams: u64,
+}
+
+#[derive(Clone, Copy, Debug, PartialEq, Eq)]
+pub(crate) enum Held {
+    Withdrawn,
+    Entry(Record),
+}
+
+// What is held under a number: the highest revision that was let in, and what it said.
+#[derive(Clone, Copy, Debug, PartialEq, Eq)]
+pub(crate) struct Place {
+    pub number: u32,
+    pub revision: u32,
+    pub held: Held,
+}
+
+// What stands in a place that is not in use.
+pub(crate) const EMPTY: Place = Place {
+    number: 0,
+    revision: 0,
+    held: Held::Withdrawn,
+};
+
+// The most grams that a line has.
+const MOST_GRAMS: u64 = 100_000_000_000_000;
+
+impl From<Line> for Record {
+    ghost from_gives = { λ line r. record_numbers r ≡ line_numbers line };
+
+    fn from(line: Line) -> Record {
+        Record {
+            row: line.row,
+            span: line.span,
+            code: line.code,
+            thousandths: line.thousandths,
+            grams: line.grams,
+        }
+    }
+}
+
+impl Held {
+    // Whether both are withdrawn, or both say the same. Their grams follow from the rest.
+    fn equals(&self, other: &Held) -> bool
+        ensures { MatchBool result (EqualLines (held_line self.now) (held_line other.now)) (EqualLines (held_line self.now) (held_line other.now) → ⊥) }
+    {
+        match (self, other) {
+            (Held::Withdrawn, Held::Withdrawn) => true,
+            (Held::Entry(a), Held::Entry(b)) => {
+                a.row == b.row
+                    && a.span == b.span
+                    && a.code == b.code
+                    && a.thousandths == b.thousandths
+            }
+            _ => false,
+        }
+    }
+}
+
+impl Place {
+    // The place that a note takes, in a building and at the factors of a source.
+    pub(crate) fn of<S: FactorSource>(
+        sent: &Sent,
+        building: &Building,
+        source: &S,
+    ) -> Result<Place, Refusal>
+        ensures value { Decided (entry_asked building.now.life (S.known source.now) (sent_entry sent.now)) (λ p. taken_by p ≡ taken_of building.now.life (S.known source.now) (sent_note sent.now)) result }
+        ensures named { IfErr result (Named building.now.life (S.known source.now) (sent_entry sent.now)) }
+    {
+        let held = match sent {
+            Sent::Entry(entry) => {
+                let line = booking::book(building, source, &(*entry).into())?;
+                Held::Entry(line.into())
+            }
+            Sent::Withdrawal(_) => Held::Withdrawn,
+        };
+        Ok(Place {
+            number: sent.number(),
+            revision: sent.revision(),
+            held,
+        })
+    }
+
+    // Its line, if it has one in range: what was let in is always in range, but a place does not say so.
+    pub(crate) fn line(&self) -> Option<Line>
+        ensures { option_map line_numbers result ≡ sound (held_line self.now.held) }
+    {
+        match self.held {
+            Held::Entry(r) if r.grams <= MOST_GRAMS => Some(Line {
+                row: r.row,
+                span: r.span,
+                code: r.code,
+                thousandths: r.thousandths,
+                grams: r.grams,
+            }),
+            _ => None,
+        }
+    }
+
+    // Whether it may take the place of an older one under the same number.
+    pub(crate) fn replaces(&self, old: &Place) -> Result<(), Refusal>
+        ensures { Decided (replacing (taken_by self.now) (Some (taken_by old.now))) (λ _. Unit {0}) result }
+    {
+        if self.revision < old.revision {
+            return Err(Refusal::Superseded);
+        }
+        if self.revision > old.revision {
+            return Ok(());
+        }
+        if self.held.equals(&old.held) {
+            Err(Refusal::Superseded)
+        } else {
+            Err(Refusal::Contradicted)
+        }
+    }
+}
