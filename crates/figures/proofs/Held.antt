@@ -1,10 +1,13 @@
--- The worked figures hold: each is what the definitions compute to. Assumes nothing.
+-- The worked figures hold: most are what the definitions compute to. Assumes nothing.
 use Rattle.std.proofs.Common.{rules}
 use lib.Ieee.{round}
 use Rattle.exact.specs.Rounding.{nearest}
 use Rattle.booking.specs.Booked.{content}
+use Rattle.totals.specs.Sums.{sum_in, by_row}
+use Rattle.pages.specs.Pages.{page_figures}
 use Rattle.figures.specs.Figures.{figures, Held}
+use Rattle.figures.proofs.Withdrawn.{refused, let_in, counts}
 
 pub figures_hold : Held figures
-unfolding nearest content round
-figures_hold = search rules
+unfolding nearest content round sum_in by_row page_figures
+figures_hold = search (rules, refused, let_in, counts)

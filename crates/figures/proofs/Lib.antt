@@ -1,1 +1,2 @@
+mod Withdrawn
 mod Held

@@ -1,5 +1,5 @@
 -- Worked figures, which the definitions have to give. Assumes nothing.
-use Rattle.std.specs.Prelude.{◌≡◌, ℕ, false, List, [], ◌∷◌}
+use Rattle.std.specs.Prelude.{◌≡◌, ℕ, false, List, [], ◌∷◌, pos, neg_ℤ}
 use Rattle.std.specs.Float.{binary64}
 use Rattle.std.specs.Float.Ieee.{round}
 use Rattle.refusals.specs.Refusals.{Kept}
@@ -10,6 +10,8 @@ use Rattle.booking.specs.declared.entry.Entry.{Entry}
 use Rattle.booking.specs.declared.quantity.Quantity.TheVariants.{Counted, Measured}
 use Rattle.booking.specs.Booked.{content, booked}
 use Rattle.booking.specs.Quantities.{QuantityInRange, booked_thousandths}
+use Rattle.figures.specs.Headings.{Prints}
+use Rattle.figures.specs.Withdrawals.{RefusedBy, LetIn, CountsAt}
 
 -- an entry of so many counted thousandths
 abbrev pub entry_of : (row span code thousandths : ℕ) → Entry
@@ -25,7 +27,8 @@ abbrev pub Measures : (n d thousandths : ℕ) → Type 0
 Measures n d thousandths =
     QuantityInRange (Measured (round binary64 false n d)) × (booked_thousandths (Measured (round binary64 false n d)) ≡ thousandths)
 
--- a thousandth of a tonne at 5,000 and at 4,999; 0.0625 and 0.0624 measured; a kilogram of R-134a in equipment of 15 years; 30 tonnes over 500 kilometres at 1,290; recycled material, the new material being at 5
+-- a thousandth of a tonne at 5,000 and at 4,999; 0.0625 and 0.0624 measured; a kilogram of R-134a in equipment of 15 years; 30 tonnes over 500 kilometres at 1,290; recycled material, the new material being at 5;
+-- three headings of 400 grams, and two of 500 and -1,000; of a number that is withdrawn at revision 2, an entry at 1, and one at 3
 abbrev pub figures : List (Type 0)
 figures =
     ComesTo 1 (λ c. has 5000 1) (entry_of 1 0 7 1) 1
@@ -35,6 +38,11 @@ figures =
     ∷ ComesTo 50 built_in (entry_of 21 15 102 1000) 4766667
     ∷ ComesTo 50 (λ c. has 1290 5) (entry_of 2 500 7 30000) 1935000
     ∷ (with_recycled (λ c. has 5 1) 1000007 ≡ has 3 1)
+    ∷ Prints (pos 400 ∷ (pos 400 ∷ (pos 400 ∷ []))) (pos 0 ∷ (pos 1 ∷ (pos 0 ∷ [])))
+    ∷ Prints (pos 500 ∷ (neg_ℤ (pos 1000) ∷ [])) (pos 1 ∷ (neg_ℤ (pos 1) ∷ []))
+    ∷ RefusedBy 1 21
+    ∷ LetIn 3
+    ∷ CountsAt 3
     ∷ []
 
 -- each of them holds

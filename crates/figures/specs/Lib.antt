@@ -1,1 +1,3 @@
+pub mod Headings
+pub mod Withdrawals
 pub mod Figures

@@ -7,5 +7,5 @@ pub fn worked_figures() -> usize
     ensures held { Held figures }
     ensures count { result ≡ length figures }
 {
-    7
+    12
 }
