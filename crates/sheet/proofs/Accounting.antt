@@ -6,22 +6,31 @@ use Rattle.factors.specs.Maps.{Map}
 use Rattle.feed.specs.declared.building.BuildingNumbers.{BuildingNumbers}
 use Rattle.pages.specs.declared.figure.Figure.{Figure}
 use Rattle.pages.specs.Cuts.{Assignment}
-use Rattle.sheet.specs.Histories.{Event, sent, paged, graded, Run, new, send, sends}
+use Rattle.sheet.specs.Accounts.{sendings}
+use Rattle.sheet.specs.Histories.{Event, paged, graded, Run, new, send, sends}
 use Rattle.sheet.specs.Laws.{LawfulPage, LawfulGrade, Lawful}
 use Rattle.sheet.specs.States.{State, opened, Sends}
 
 -- the sheet after it was sent these bytes, in this order, and nothing else was asked of it
 pub record Sofar (b : BuildingNumbers) (known : Map) (bytes : List (List ℕ)) (s : State) : Type 0 where
-  pub before : List Event
-  pub run : Run b known before s
-  pub sent_are : sends before ≡ reverse bytes
+  pub answered : List (List ℕ × Result (Unit {0}) Refusal)
+  pub run : Run b known (sendings answered) s
+  pub sent_are : map (λ a. a.0) answered ≡ reverse bytes
+
+-- the bytes of such calls
+sends_sendings : (answered : List (List ℕ × Result (Unit {0}) Refusal)) → sends (sendings answered) ≡ map (λ a. a.0) answered
+sends_sendings [] = refl
+sends_sendings (a ∷ answered) = ap (λ bytes. a.0 ∷ bytes) (sends_sendings answered)
+
+pub bytes_are : (answered : List (List ℕ × Result (Unit {0}) Refusal)) (bytes : List (List ℕ)) → map (λ a. a.0) answered ≡ bytes → sends (sendings answered) ≡ bytes
+bytes_are answered bytes e = sends_sendings answered ∙ e
 
 module _ (b : BuildingNumbers) (known : Map) where
   pub none_sent : Sofar b known [] (opened b known)
-  none_sent = record { before = []; run = new; sent_are = refl }
+  none_sent = record { answered = []; run = new; sent_are = refl }
 
   pub one_sent : (bytes : List (List ℕ)) (s t : State) (bs : List ℕ) (r : Result (Unit {0}) Refusal) → Sofar b known bytes s → Sends s bs r t → Sofar b known (bytes ++ bs ∷ []) t
-  one_sent bytes s t bs r h step = record { before = sent bs r ∷ h.before; run = send h.run step; sent_are = ap (λ xs. bs ∷ xs) h.sent_are ∙ sym (reverse-append bytes (bs ∷ [])) }
+  one_sent bytes s t bs r h step = record { answered = (bs, r) ∷ h.answered; run = send h.run step; sent_are = ap (λ xs. bs ∷ xs) h.sent_are ∙ sym (reverse-append bytes (bs ∷ [])) }
 
   -- what is promised of the page and the grade, from the law over the calls
   pub page_drawn : (before : List Event) (cut : Assignment) (places : List Figure) (r : Result Figure Refusal) (after : List Figure) (bytes : List (List ℕ)) → sends before ≡ bytes → Lawful b known (paged cut places r after ∷ before) → IfOk r (λ total. LawfulPage b.life known bytes cut (take cut.size after) total)

@@ -6,7 +6,7 @@ use Rattle.sheet.specs.declared.book.Book.{Book}
 use Rattle.sheet.specs.declared.place.Held.{Held}
 use Rattle.sheet.specs.declared.place.Held.TheVariants.{Withdrawn, Entry}
 use Rattle.sheet.specs.declared.place.Place.{Place}
-use Rattle.sheet.specs.declared.place.Record.{Record}
+use Rattle.sheet.specs.declared.record.Record.{Record}
 
 -- a place that is taken: by a line, or by none where it was withdrawn
 pub record Taken : Type 0 where

@@ -11,7 +11,7 @@ use crate::place::{EMPTY, Place};
 use refusals::Refusal;
 use totals::{ROWS, Totals};
 
-pub(crate) const PLACES: usize = 512;
+const PLACES: usize = 512;
 
 // The first `used` places are in use. A withdrawn number keeps its place, so that an amendment that comes late is known to be late.
 #[derive(Clone, Copy, Debug, PartialEq, Eq)]
@@ -30,7 +30,7 @@ impl Book {
         }
     }
 
-    pub(crate) fn in_use(&self) -> &[Place]
+    fn in_use(&self) -> &[Place]
         ensures value { result.now ≡ in_use self.now }
         ensures whole { length self.now.places ≡ PLACES }
     {

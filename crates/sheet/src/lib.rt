@@ -4,6 +4,7 @@
 mod accounts;
 mod book;
 mod place;
+mod record;
 mod sheet;
 
 pub use accounts::account;

@@ -4,24 +4,15 @@ ghost use Rattle.refusals.specs.Refusals.{Decided};
 ghost use Rattle.booking.specs.Booked.{line_numbers};
 ghost use Rattle.sheet.specs.Lines.{sound};
 ghost use Rattle.sheet.specs.Notes.{entry_asked, Named, sent_entry, sent_note, taken_of};
-ghost use Rattle.sheet.specs.Places.{record_numbers, held_line, taken_by};
+ghost use Rattle.sheet.specs.Places.{held_line, taken_by};
 ghost use Rattle.sheet.specs.Placing.{EqualLines, replacing};
 
-use booking::{Line, Row};
+use crate::record::Record;
+use booking::Line;
 use factors::FactorSource;
 use feed::building::Building;
 use feed::sent::Sent;
 use refusals::Refusal;
-
-// What a booked line says. It keeps no range, so that places are plain records; whoever makes a line of it asks for the range.
-#[derive(Clone, Copy, Debug, PartialEq, Eq)]
-pub(crate) struct Record {
-    pub row: Row,
-    pub span: u16,
-    pub code: u32,
-    pub thousandths: u64,
-    pub grams: u64,
-}
 
 #[derive(Clone, Copy, Debug, PartialEq, Eq)]
 pub(crate) enum Held {
@@ -43,23 +34,6 @@ pub(crate) const EMPTY: Place = Place {
     revision: 0,
     held: Held::Withdrawn,
 };
-
-// The most grams that a line has.
-const MOST_GRAMS: u64 = 100_000_000_000_000;
-
-impl From<Line> for Record {
-    ghost from_gives = { λ line r. record_numbers r ≡ line_numbers line };
-
-    fn from(line: Line) -> Record {
-        Record {
-            row: line.row,
-            span: line.span,
-            code: line.code,
-            thousandths: line.thousandths,
-            grams: line.grams,
-        }
-    }
-}
 
 impl Held {
     // Whether both are withdrawn, or both say the same. Their grams follow from the rest.
@@ -103,19 +77,13 @@ impl Place {
         })
     }
 
-    // Its line, if it has one in range: what was let in is always in range, but a place does not say so.
+    // Its line, if it has one in range.
     pub(crate) fn line(&self) -> Option<Line>
         ensures { option_map line_numbers result ≡ sound (held_line self.now.held) }
     {
         match self.held {
-            Held::Entry(r) if r.grams <= MOST_GRAMS => Some(Line {
-                row: r.row,
-                span: r.span,
-                code: r.code,
-                thousandths: r.thousandths,
-                grams: r.grams,
-            }),
-            _ => None,
+            Held::Withdrawn => None,
+            Held::Entry(record) => record.line(),
         }
     }
 

@@ -2,7 +2,7 @@ use Rattle.std.proofs.Common.{subst, sym}
 use Rattle.feed.specs.Buildings.{numbers_of}
 use Rattle.sheet.specs.Histories.{page, grade}
 use Rattle.sheet.specs.States.{state_of}
-use Rattle.sheet.proofs.Accounting.{Sofar, none_sent, one_sent, page_drawn, grade_given, one_more, all_of}
+use Rattle.sheet.proofs.Accounting.{Sofar, none_sent, one_sent, bytes_are, page_drawn, grade_given, one_more, all_of}
 use Rattle.sheet.proofs.accounts.account.Goals as goal
 
 pub loop-bytes-init : goal.loop-bytes-init
@@ -22,9 +22,10 @@ returns g c =
     let known = g.S.FactorSource.known c.args.source in
     let s = state_of g.S.FactorSource.known c.loop-bytes.sheet in
     let h = subst (λ bytes. Sofar b known bytes s) (all_of (λ bytes. bytes.now) c.args.sends.now c.loop-bytes.bytes-index c.loop-bytes-test.false) c.loop-bytes.invariant in
+    let bytes = bytes_are h.answered _ h.sent_are in
     let paged = page h.run c.page-total.ensures.value in
     record {
-      run = record { before = h.before; last = s; run = grade paged c.grade.ensures.value; sent = h.sent_are };
-      page = page_drawn b known h.before _ _ _ _ _ h.sent_are (c.page-total.ensures.law b known h.before h.run);
-      grade = grade_given b known _ _ _ h.sent_are (c.grade.ensures.law b known _ paged);
+      run = record { answered = h.answered; last = s; sent = h.sent_are; run = grade paged c.grade.ensures.value };
+      page = page_drawn b known _ _ _ _ _ _ bytes (c.page-total.ensures.law b known _ h.run);
+      grade = grade_given b known _ _ _ bytes (c.grade.ensures.law b known _ paged);
     }
