@@ -1,0 +1,9 @@
+// Tests of sheets, against answers and figures that were worked out by hand.
+#![tactic(auto)]
+
+#[cfg(test)]
+mod notes;
+#[cfg(test)]
+mod pages;
+#[cfg(test)]
+mod sends;

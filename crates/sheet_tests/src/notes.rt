@@ -1,0 +1,41 @@
+// Notes and what they are judged by: a house of 1,000 square metres over 50 years, and one factor of 0.4 grams a thousandth of a kilogram.
+use factors::ProjectList;
+use feed::building::{Building, BuildingNumbers};
+use feed::factor::FactorRow;
+use refusals::Refusal;
+
+pub(crate) const FACTORS: [FactorRow; 1] = [FactorRow {
+    code: 7,
+    amount: 4_000,
+    unit: 4,
+}];
+
+pub(crate) fn list() -> ProjectList<'static> {
+    ProjectList { rows: &FACTORS }
+}
+
+pub(crate) fn house() -> Result<Building, Refusal> {
+    Building::try_from(BuildingNumbers {
+        area: 10_000,
+        life: 50,
+        region: 2,
+        sun: 2,
+        building_type: 1,
+        reference: 0,
+    })
+}
+
+// An entry of so many thousandths, at the factor.
+pub(crate) fn entry(number: u16, revision: u8, row: u8, thousandths: u16) -> [u8; 28] {
+    let [low, high] = number.to_le_bytes();
+    let [less, more] = thousandths.to_le_bytes();
+    [
+        28, 0, 3, 0, low, high, 0, 0, revision, 0, 0, 0, row, 0, 0, 0, 7, 0, 0, 0, less, more, 0,
+        0, 0, 0, 0, 0,
+    ]
+}
+
+pub(crate) fn withdrawal(number: u16, revision: u8) -> [u8; 12] {
+    let [low, high] = number.to_le_bytes();
+    [12, 0, 5, 0, low, high, 0, 0, revision, 0, 0, 0]
+}

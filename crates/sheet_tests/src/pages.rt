@@ -1,0 +1,78 @@
+// Pages by each cut, of 400 grams in each of the rows 1, 3 and 22: the running sum is 400, 800 and 1,200.
+use crate::notes::{entry, house, list};
+use grades::Grade;
+use pages::{ByRow, ByStage, ByType, Cut, Figure};
+use refusals::Refusal;
+use sheet::account;
+
+fn figure(kilograms: i64, count: u16) -> Figure {
+    Figure { kilograms, count }
+}
+
+// The total and the grade of those three entries; the places are written.
+fn drawn<C: Cut>(
+    cut: &C,
+    figures: &mut [Figure],
+) -> Result<(Result<Figure, Refusal>, Grade), Refusal> {
+    let first = entry(1, 0, 1, 1_000);
+    let second = entry(2, 0, 3, 1_000);
+    let third = entry(3, 0, 22, 1_000);
+    let sends: [&[u8]; 3] = [&first, &second, &third];
+    Ok(account(house()?, list(), &sends, cut, figures))
+}
+
+#[test]
+fn by_stage(rt: HostRuntime) -> Result<(), Refusal> {
+    let mut figures = [figure(-9, 9); 5];
+    let (total, grade) = drawn(&ByStage, &mut figures)?;
+    assert_eq!(rt; total, Ok(figure(1, 3)));
+    assert_eq!(rt; grade, Grade::NearZero);
+    let expected = [
+        figure(0, 1),
+        figure(1, 1),
+        figure(0, 0),
+        figure(0, 1),
+        figure(-9, 9),
+    ];
+    assert_eq!(rt; figures, expected);
+    Ok(())
+}
+
+#[test]
+fn by_type(rt: HostRuntime) -> Result<(), Refusal> {
+    let mut figures = [figure(-9, 9); 5];
+    let (total, _) = drawn(&ByType, &mut figures)?;
+    assert_eq!(rt; total, Ok(figure(1, 3)));
+    let expected = [
+        figure(0, 0),
+        figure(0, 0),
+        figure(1, 3),
+        figure(0, 0),
+        figure(-9, 9),
+    ];
+    assert_eq!(rt; figures, expected);
+    Ok(())
+}
+
+#[test]
+fn by_row(rt: HostRuntime) -> Result<(), Refusal> {
+    let mut figures = [figure(-9, 9); 23];
+    let (total, _) = drawn(&ByRow, &mut figures)?;
+    assert_eq!(rt; total, Ok(figure(1, 3)));
+    let mut expected = [figure(0, 0); 23];
+    expected[0] = figure(0, 1);
+    expected[2] = figure(1, 1);
+    expected[21] = figure(0, 1);
+    expected[22] = figure(-9, 9);
+    assert_eq!(rt; figures, expected);
+    Ok(())
+}
+
+#[test]
+fn too_few_places(rt: HostRuntime) -> Result<(), Refusal> {
+    let mut figures = [figure(-9, 9); 3];
+    let (total, _) = drawn(&ByStage, &mut figures)?;
+    assert_eq!(rt; total, Err(Refusal::TooFewPlaces));
+    assert_eq!(rt; figures, [figure(-9, 9); 3]);
+    Ok(())
+}

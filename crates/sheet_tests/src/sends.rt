@@ -1,0 +1,61 @@
+// What is answered to sends, one after the other.
+use crate::notes::{entry, house, list, withdrawal};
+use pages::{ByStage, Figure};
+use refusals::Refusal;
+use sheet::Sheet;
+
+#[test]
+fn a_withdrawal_ahead_of_its_amendment(rt: HostRuntime) -> Result<(), Refusal> {
+    let mut sheet = Sheet::open(house()?, list());
+    assert_eq!(rt; sheet.send(&withdrawal(1, 2)), Ok(()));
+    assert_eq!(rt;
+        sheet.send(&entry(1, 1, 1, 1_000)),
+        Err(Refusal::Superseded)
+    );
+    assert_eq!(rt;
+        sheet.send(&entry(1, 2, 1, 1_000)),
+        Err(Refusal::Contradicted)
+    );
+    assert_eq!(rt; sheet.send(&withdrawal(1, 2)), Err(Refusal::Superseded));
+    assert_eq!(rt; sheet.send(&entry(1, 3, 1, 5_000)), Ok(()));
+    assert_eq!(rt;
+        sheet.send(&entry(1, 3, 1, 5_000)),
+        Err(Refusal::Superseded)
+    );
+    assert_eq!(rt;
+        sheet.send(&entry(1, 3, 1, 5_001)),
+        Err(Refusal::Contradicted)
+    );
+    let mut figures = [Figure {
+        kilograms: 9,
+        count: 9,
+    }; 4];
+    let total = Figure {
+        kilograms: 2,
+        count: 1,
+    };
+    assert_eq!(rt; sheet.page(&ByStage, &mut figures), Ok(total));
+    Ok(())
+}
+
+// 512 numbers, one more, and then an amendment of one of them.
+#[test]
+fn a_full_book(rt: HostRuntime) -> Result<(), Refusal> {
+    let mut sheet = Sheet::open(house()?, list());
+    for number in 0..512 {
+        assert_eq!(rt; sheet.send(&entry(number, 0, 22, 1)), Ok(()));
+    }
+    assert_eq!(rt; sheet.send(&entry(512, 0, 22, 1)), Err(Refusal::BookFull));
+    assert_eq!(rt; sheet.send(&withdrawal(512, 0)), Err(Refusal::BookFull));
+    assert_eq!(rt; sheet.send(&entry(511, 1, 22, 2)), Ok(()));
+    let mut figures = [Figure {
+        kilograms: 0,
+        count: 0,
+    }; 4];
+    let total = Figure {
+        kilograms: 0,
+        count: 512,
+    };
+    assert_eq!(rt; sheet.page(&ByStage, &mut figures), Ok(total));
+    Ok(())
+}
