@@ -2,8 +2,8 @@
 #![tactic(auto)]
 
 #[cfg(test)]
-mod notes;
+mod cuts;
 #[cfg(test)]
-mod pages;
+mod notes;
 #[cfg(test)]
 mod sends;
