@@ -1,6 +1,7 @@
 -- The law over the calls of a sheet. Assumes nothing.
-use Rattle.std.proofs.Common.{◌≡◌, ℕ, zero, suc, ◌+◌, ◌*◌, ◌<◌, List, [], ◌∷◌, ◌++◌, length, take, drop, map, Some, None, Option, Ok, Err, Result, Bool, true, false, if◌then◌else◌, ℤ, pos, ◌+ℤ◌, ◌*ℤ◌, ◌≤ℤ◌, sym, refl, ap, ◌∙◌, subst, arith}
+use Rattle.std.proofs.Common.{◌≡◌, ℕ, ◌+◌, ◌*◌, List, [], ◌∷◌, ◌++◌, length, take, drop, map, Some, None, Option, Ok, Err, Result, Bool, true, false, if◌then◌else◌, ℤ, pos, ◌+ℤ◌, ◌*ℤ◌, ◌≤ℤ◌, sym, refl, ap, ◌∙◌, subst, arith}
 use Rattle.std.proofs.lemmas.Int.{ints}
+use Rattle.std.proofs.Math.Nat.{mul-pos}
 use Rattle.std.proofs.Math.Seq.{take-append_seam}
 use Rattle.std.proofs.lemmas.List.FromFn.{length-map-range_with_len}
 use Rattle.std.proofs.lemmas.List.Elements.{All-nil, All-cons}
@@ -49,11 +50,6 @@ near_exact kg g n x h a b =
       least = omega (arith, ints, b.most, scale_le _ _ d up, apart (pos 2 *ℤ g) (pos 2) d, apart k (pos 2000) d, apart k (pos (2000 + n)) d);
       most = omega (arith, ints, b.least, scale_le _ _ d down, apart k (pos 2) d, apart (pos 2 *ℤ g) (pos 2000) d);
     }
-
-product_positive : (c d : ℕ) → 0 < c → 0 < d → 0 < c * d
-product_positive zero d h k = absurd (omega arith)
-product_positive (suc c) zero h k = absurd (omega arith)
-product_positive (suc c) (suc d) h k = omega arith
 
 -- a page has a figure for each heading
 figures_each : (cut : Assignment) (sums : Sums) → length (page_figures cut sums) ≡ cut.size
@@ -121,8 +117,8 @@ module _ (b : BuildingNumbers) (known : Map) where
 
   -- their exact sum is a number
   divides_more : (t m : Bool) (e : Entry) → Fit y known e → (x : Fraction) → Divides x → Divides (if t then plus (if m then negated (exact_grams y known e) else exact_grams y known e) x else x)
-  divides_more true true e k x h = product_positive _ _ (exact_divides y known e k) h
-  divides_more true false e k x h = product_positive _ _ (exact_divides y known e k) h
+  divides_more true true e k x h = mul-pos (exact_divides y known e k) h
+  divides_more true false e k x h = mul-pos (exact_divides y known e k) h
   divides_more false m e k x h = h
 
   divides_sum : (choice : ℕ → Bool) (es : List Entry) → AllByRecursion (Fit y known) es → Divides (exact_in y known choice es)

@@ -4,8 +4,8 @@ ghost use Rattle.std.specs.Prelude.{◌≤◌, sum_by, sum, unsigned_abs};
 // How many rows a sheet has.
 pub const ROWS: usize = 22;
 
-// Signed grams and how many entries they are of, the first row first. Every such value keeps what 512 entries of the largest weight come to.
-// Two arrays beside one another, since the project asks for the grams as one array of numbers.
+// Signed grams and how many entries they are of, the first row first. No such value is beyond what 512 of the heaviest entries come to.
+// Two arrays beside one another, since pages and grades go through the grams as one list of numbers.
 #[derive(Clone, Copy, Debug, PartialEq, Eq)]
 pub struct Totals {
     pub grams: [i64; ROWS],
