@@ -1,7 +1,9 @@
 -- Sources over a source. Assumes nothing.
-use Rattle.std.specs.Prelude.{ℕ, ◌-◌, if◌then◌else◌, ◌&&◌, ◌==◌, nat_lt}
+use Rattle.std.specs.Prelude.{ℕ, List, ◌-◌, if◌then◌else◌, ◌&&◌, ◌==◌, nat_lt}
 use Rattle.exact.specs.Rounding.{rounded}
 use Rattle.factors.specs.BuiltIn.{built_in}
+use Rattle.feed.specs.declared.factor.FactorRow.{FactorRow}
+use Rattle.factors.specs.Lists.{listed}
 use Rattle.factors.specs.Maps.{Answer, Map, has, lacks}
 
 -- a, and where it is a lack, what b has
@@ -22,3 +24,7 @@ half c (lacks l) = lacks l
 -- recycled material has the code of the new material and 1,000,000, and half its amount
 abbrev pub with_recycled : Map → Map
 with_recycled below c = if nat_lt 1000000 c && nat_lt c 2000000 then half c (below (c - 1000000)) else below c
+
+-- the factors of a project: recycled material over the built-in factors over its own list
+abbrev pub project_map : List FactorRow → Map
+project_map rows = with_recycled (with_defaults (listed rows))

@@ -4,6 +4,7 @@
 mod defaults;
 mod lack;
 mod list;
+mod project;
 mod recycled;
 mod source;
 mod table;
@@ -11,6 +12,7 @@ mod table;
 pub use defaults::Defaults;
 pub use lack::Lack;
 pub use list::ProjectList;
+pub use project::ProjectFactors;
 pub use recycled::Recycled;
 pub use source::FactorSource;
 pub use table::BuiltIn;

@@ -2,3 +2,5 @@ pub mod Bytes
 pub mod Framing
 pub mod Reading
 pub mod Running
+pub mod Ending
+pub mod Beginning

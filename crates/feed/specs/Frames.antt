@@ -20,3 +20,7 @@ pub record OneNote (note : List ℕ) : Type 0 where
 -- a note's kind: 1 building, 2 factor row, 3 entry, 4 measured entry, 5 withdrawal
 abbrev pub note_kind : List ℕ → ℕ
 note_kind note = field note 2 2
+
+-- the bytes begin with a note of the kind of factor rows
+abbrev pub RowFirst : List ℕ → Type 0
+RowFirst bs = Framed bs × (note_kind (first_note bs) ≡ 2)

@@ -1,9 +1,9 @@
 // A factor: how much carbon one unit of something stands for.
-ghost use Rattle.std.specs.Prelude.{◌≡◌};
+ghost use Rattle.std.specs.Prelude.{◌≡◌, MatchBool};
 ghost use Rattle.codes.specs.Ranges.{AmountRange};
 
 use crate::content::{Content, read};
-use crate::frame::of_length;
+use crate::frame::{Head, of_length};
 use crate::little::number_at;
 use codes::{FactorUnit, Kind};
 use refusals::Refusal;
@@ -29,8 +29,15 @@ pub struct FactorRow {
 
 impl FactorRow {
     ghost use Rattle.feed.specs.Factors.{factor_row, IsFactorRow};
-    ghost use Rattle.feed.specs.Frames.{Framed, first_note};
+    ghost use Rattle.feed.specs.Frames.{Framed, RowFirst, first_note};
     ghost use Rattle.feed.specs.Readings.{Reads};
+
+    // Whether the bytes begin with a note of this kind.
+    pub fn is_next(bytes: &[u8]) -> bool
+        ensures { MatchBool result (RowFirst bytes.now) (RowFirst bytes.now → ⊥) }
+    {
+        Head::read(bytes).is_ok_and(|head| head.kind == u16::from(Kind::Factor))
+    }
 
     // The factor row that the bytes begin with. One that is read is in range.
     pub fn read(bytes: &[u8]) -> Result<FactorRow, Refusal>

@@ -5,18 +5,12 @@ use Rattle.feed.specs.declared.reader.Part.{Part}
 use Rattle.feed.specs.declared.reader.Reader.{Reader}
 use Rattle.feed.specs.Factors.{IsFactorRow}
 use Rattle.feed.specs.Feeds.{Answer, text, left_of, Opened, Hands, Answered}
-use Rattle.feed.specs.Frames.{first_note, note_kind}
+use Rattle.feed.specs.Frames.{RowFirst}
 use Rattle.feed.specs.Readings.{Reads}
-use Rattle.feed.proofs.Framing.{one_first, framed_one, first_one}
+use Rattle.feed.proofs.Beginning.{row_alone}
 use Rattle.feed.proofs.Running.{hands_next, hands_note, no_note}
 use Rattle.refusals.specs.declared.refusal.Refusal.{Refusal}
-use Rattle.listing.specs.Openings.{RowFirst, Rows, row, passed, ended}
-
--- the first note of bytes has their kind
-first_alone : (bs : List ℕ) → RowFirst bs → RowFirst (first_note bs)
-first_alone bs first =
-    let one = one_first bs first.0 in
-    (framed_one (first_note bs) one, ap note_kind (first_one (first_note bs) one) ∙ first.1)
+use Rattle.listing.specs.Openings.{Rows, row, passed, ended}
 
 -- the rows that the reader has still to come to are all that the list lacks
 pub record Sofar (bytes : List ℕ) (r : Reader) (rows : List FactorRow) : Type 0 where
@@ -37,7 +31,7 @@ module _ (bytes : List ℕ) (r : Reader) (rows : List FactorRow) where
 
     module _ (p : Part) (t : Reader) (step : Hands r p t) where
       pub another_kind : (RowFirst (text p) → ⊥) → Rows bytes rows
-      another_kind other = no_row (λ first. other (subst RowFirst (sym step.note) (first_alone (left_of r) first)))
+      another_kind other = no_row (λ first. other (subst RowFirst (sym step.note) (row_alone (left_of r) first)))
 
       pub one_more : (f : FactorRow) (longer : List FactorRow) → Reads (λ k. k ≡ 2) IsFactorRow (text p) (Ok f) → longer ≡ rows ++ (f ∷ []) → Sofar bytes t longer
       one_more f longer reads is =

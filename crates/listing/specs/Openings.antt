@@ -5,16 +5,11 @@ use Rattle.feed.specs.declared.building.Building.{Building}
 use Rattle.feed.specs.declared.factor.FactorRow.{FactorRow}
 use Rattle.feed.specs.Buildings.{IsBuilding}
 use Rattle.feed.specs.Factors.{IsFactorRow}
-use Rattle.feed.specs.Frames.{Framed, OneNote, first_note, note_kind}
+use Rattle.feed.specs.Frames.{OneNote, RowFirst}
 use Rattle.feed.specs.Readings.{Reads}
-use Rattle.factors.specs.Layers.{with_defaults, with_recycled}
-use Rattle.factors.specs.Lists.{listed}
+use Rattle.factors.specs.Layers.{project_map}
 use Rattle.factors.specs.Maps.{Map}
 use Rattle.listing.specs.declared.opening.Opening.{Opening}
-
--- the bytes begin with a note of the kind of factor rows
-abbrev pub RowFirst : List ℕ → Type 0
-RowFirst bs = Framed bs × (note_kind (first_note bs) ≡ 2)
 
 -- the run of factor rows that the bytes begin with; one that is refused is passed over
 pub data Rows : List ℕ → List FactorRow → Type 0 where
@@ -31,10 +26,6 @@ pub data Begins (feed : List ℕ) : Option Building → List FactorRow → Type 
 pub data Account : Type 0 where
   unbooked : Account
   by : (y : ℕ) (known : Map) → Account
-
--- the factors of a project: recycled material over the built-in defaults over its own list
-abbrev pub project_map : List FactorRow → Map
-project_map rows = with_recycled (with_defaults (listed rows))
 
 abbrev pub account_with : Option Building → List FactorRow → Account
 account_with None rows = unbooked

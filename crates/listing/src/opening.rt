@@ -1,11 +1,9 @@
 // What a feed begins with: its building and its own factors.
-ghost use Rattle.std.specs.Prelude.{IfOk, MatchBool};
-ghost use Rattle.listing.specs.Openings.{RowFirst, Rows, Begins};
+ghost use Rattle.std.specs.Prelude.{IfOk};
+ghost use Rattle.listing.specs.Openings.{Rows, Begins};
 
-use codes::Kind;
 use feed::building::Building;
 use feed::factor::FactorRow;
-use feed::frame::Head;
 use feed::reader::Reader;
 use std::alloc::{AllocError, Global};
 
@@ -45,7 +43,7 @@ fn rows(heap: Global, bytes: &[u8]) -> Result<Vec<FactorRow>, AllocError>
     let mut rows = Vec::new(heap);
     let mut reader = Reader::new(bytes);
     while let Ok(Some(part)) = reader.next() {
-        if !is_factor_row(part.bytes) {
+        if !FactorRow::is_next(part.bytes) {
             return Ok(rows);
         }
         if let Ok(row) = FactorRow::read(part.bytes) {
@@ -53,11 +51,4 @@ fn rows(heap: Global, bytes: &[u8]) -> Result<Vec<FactorRow>, AllocError>
         }
     }
     Ok(rows)
-}
-
-// Whether the first note of the bytes is of the kind of factor rows.
-fn is_factor_row(bytes: &[u8]) -> bool
-    ensures { MatchBool result (RowFirst bytes.now) (RowFirst bytes.now → ⊥) }
-{
-    Head::read(bytes).is_ok_and(|head| head.kind == u16::from(Kind::Factor))
 }

@@ -5,7 +5,7 @@ ghost use Rattle.listing.specs.Openings.{account_of};
 
 use crate::opening::Opening;
 use booking::{Entry, Line, book};
-use factors::{Defaults, ProjectList, Recycled};
+use factors::ProjectFactors;
 use refusals::Refusal;
 use std::fmt;
 
@@ -20,11 +20,8 @@ impl Opening {
         let Some(building) = &self.building else {
             return Outcome(None);
         };
-        let list = ProjectList {
+        let source = ProjectFactors {
             rows: self.rows.as_slice(),
-        };
-        let source = Recycled {
-            below: Defaults { below: list },
         };
         Outcome(Some(book(building, &source, entry)))
     }

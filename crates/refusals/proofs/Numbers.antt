@@ -2,7 +2,7 @@
 use Rattle.std.proofs.Common.{◌≡◌, [], ◌++◌, codes, decimal, refl, arith}
 use Rattle.refusals.specs.declared.lacking.Lacking.{Lacking}
 use Rattle.refusals.specs.declared.refusal.Refusal.{Refusal}
-use Rattle.refusals.specs.declared.refusal.Refusal.TheVariants.{Unframed, UnwantedKind, WrongLength, OutOfRange, UnknownRow, UnfitSpan, UnfitQuantity, FactorLacking, UnfitUnit, TooLarge, TooFewPlaces, Superseded, Contradicted, BookFull}
+use Rattle.refusals.specs.declared.refusal.Refusal.TheVariants.{Unframed, UnwantedKind, WrongLength, OutOfRange, UnknownRow, UnfitSpan, UnfitQuantity, FactorLacking, UnfitUnit, TooLarge, TooFewPlaces, Superseded, Contradicted, BookFull, TooManyRows, FeedTooLong}
 use Rattle.refusals.specs.Refusals.{refusal_number, refusal_codes}
 use Rattle.refusals.specs.Texts.{codes_said, refusal_said}
 
@@ -21,6 +21,8 @@ number_one TooFewPlaces e = absurd (omega arith)
 number_one Superseded e = absurd (omega arith)
 number_one Contradicted e = absurd (omega arith)
 number_one BookFull e = absurd (omega arith)
+number_one TooManyRows e = absurd (omega arith)
+number_one FeedTooLong e = absurd (omega arith)
 
 -- a lack alone names codes
 pub no_codes : (f : Refusal) → (refusal_number f ≡ 8 → ⊥) → refusal_codes f ≡ []
@@ -38,6 +40,8 @@ no_codes TooFewPlaces other = refl
 no_codes Superseded other = refl
 no_codes Contradicted other = refl
 no_codes BookFull other = refl
+no_codes TooManyRows other = refl
+no_codes FeedTooLong other = refl
 
 pub number_eight : (f : Refusal) → refusal_number f ≡ 8 → (l : Lacking) × (f ≡ FactorLacking l)
 number_eight Unframed e = absurd (omega arith)
@@ -54,6 +58,8 @@ number_eight TooFewPlaces e = absurd (omega arith)
 number_eight Superseded e = absurd (omega arith)
 number_eight Contradicted e = absurd (omega arith)
 number_eight BookFull e = absurd (omega arith)
+number_eight TooManyRows e = absurd (omega arith)
+number_eight FeedTooLong e = absurd (omega arith)
 
 -- a refusal's words depend on its number and its codes alone
 pub same_words : (f g : Refusal) → refusal_number f ≡ refusal_number g → refusal_codes f ≡ refusal_codes g → refusal_said f ≡ refusal_said g

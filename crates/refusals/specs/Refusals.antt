@@ -1,7 +1,7 @@
 -- The numbers of refusals, and which of several is told. Assumes nothing.
 use Rattle.std.specs.Prelude.{◌≡◌, ℕ, ◌<◌, ◌⊎◌, List, [], ◌∷◌, Ok, Err, Result}
 use Rattle.refusals.specs.declared.refusal.Refusal.{Refusal}
-use Rattle.refusals.specs.declared.refusal.Refusal.TheVariants.{Unframed, UnwantedKind, WrongLength, OutOfRange, UnknownRow, UnfitSpan, UnfitQuantity, FactorLacking, UnfitUnit, TooLarge, TooFewPlaces, Superseded, Contradicted, BookFull}
+use Rattle.refusals.specs.declared.refusal.Refusal.TheVariants.{Unframed, UnwantedKind, WrongLength, OutOfRange, UnknownRow, UnfitSpan, UnfitQuantity, FactorLacking, UnfitUnit, TooLarge, TooFewPlaces, Superseded, Contradicted, BookFull, TooManyRows, FeedTooLong}
 
 -- each refusal's number
 abbrev pub refusal_number : Refusal → ℕ
@@ -19,6 +19,8 @@ refusal_number TooFewPlaces = 11
 refusal_number Superseded = 21
 refusal_number Contradicted = 22
 refusal_number BookFull = 23
+refusal_number TooManyRows = 24
+refusal_number FeedTooLong = 25
 
 -- the codes that a refusal names: a lack names the one that was asked for and the one that is lacking
 abbrev pub refusal_codes : Refusal → List ℕ
@@ -36,6 +38,8 @@ refusal_codes TooFewPlaces = []
 refusal_codes Superseded = []
 refusal_codes Contradicted = []
 refusal_codes BookFull = []
+refusal_codes TooManyRows = []
+refusal_codes FeedTooLong = []
 
 -- what a call asks for, each condition with the number of the refusal where it fails
 abbrev pub Conditions : Type 1

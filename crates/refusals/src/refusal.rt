@@ -38,6 +38,10 @@ pub enum Refusal {
     Contradicted,
     // The number is new, and every place of the book is taken.
     BookFull,
+    // A project lists more factors of its own than it may.
+    TooManyRows,
+    // A feed has more bytes than are read.
+    FeedTooLong,
 }
 
 impl Refusal {
@@ -60,6 +64,8 @@ impl Refusal {
             Refusal::Superseded => 21,
             Refusal::Contradicted => 22,
             Refusal::BookFull => 23,
+            Refusal::TooManyRows => 24,
+            Refusal::FeedTooLong => 25,
         }
     }
 }

@@ -1,4 +1,5 @@
-use Rattle.std.proofs.Common.{◌-◌, length, vec_items}
+use Rattle.std.proofs.Common.{vec_items}
+use Rattle.feed.proofs.Ending.{bytes_left}
 use Rattle.listing.proofs.Runs.{Sofar}
 use Rattle.listing.proofs.opening.rows.Given as goal
 
@@ -6,4 +7,4 @@ abbrev pub invariant-loop-part : goal.invariant-loop-part
 invariant-loop-part l = Sofar l.bytes l.reader (vec_items l.rows)
 
 abbrev pub decreases-loop-part : goal.decreases-loop-part
-decreases-loop-part l = length l.bytes - l.reader.start
+decreases-loop-part l = bytes_left l.reader

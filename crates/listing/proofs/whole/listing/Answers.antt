@@ -1,5 +1,5 @@
-use Rattle.std.proofs.Common.{length, ap, ◌∙◌, arith, rules}
-use Rattle.feed.proofs.Running.{hands_note}
+use Rattle.std.proofs.Common.{rules}
+use Rattle.feed.proofs.Ending.{fewer_left}
 use Rattle.listing.specs.Listings.{Listing}
 use Rattle.listing.proofs.Listed.{none_yet, one_more, no_more}
 use Rattle.listing.proofs.Only.{listing_only}
@@ -10,11 +10,7 @@ pub loop-part-init : goal.loop-part-init
 loop-part-init c = none_yet _ _ _ _ c.new-reader.ensures c.new-text.ensures.bytes
 
 pub loop-part-smaller : goal.loop-part-smaller
-loop-part-smaller c =
-    let step = rw c.in-Ok-Some.field-0-is at c.in-Ok-Some.ensures.value in
-    let note = hands_note _ _ _ step in
-    let whole = ap length (step.over ∙ c.loop-part.invariant.same) in
-    omega (arith, c.next.new.self.within, step.bytes, note.head)
+loop-part-smaller c = fewer_left _ _ _ (rw c.in-Ok-Some.field-0-is at c.in-Ok-Some.ensures.value)
 
 pub loop-part-preserved : goal.loop-part-preserved
 loop-part-preserved c =

@@ -1,4 +1,5 @@
-use Rattle.std.proofs.Common.{◌-◌, length, string_bytes}
+use Rattle.std.proofs.Common.{string_bytes}
+use Rattle.feed.proofs.Ending.{bytes_left}
 use Rattle.listing.specs.Openings.{account_of}
 use Rattle.listing.proofs.Listed.{Sofar}
 use Rattle.listing.proofs.whole.listing.Given as goal
@@ -7,4 +8,4 @@ abbrev pub invariant-loop-part : goal.invariant-loop-part
 invariant-loop-part l = Sofar (account_of l.opening) l.feed l.reader (string_bytes l.text)
 
 abbrev pub decreases-loop-part : goal.decreases-loop-part
-decreases-loop-part l = length l.feed - l.reader.start
+decreases-loop-part l = bytes_left l.reader

@@ -3,7 +3,8 @@ use Rattle.std.specs.Prelude.{Option}
 use Rattle.booking.specs.Booked.{Books}
 use Rattle.feed.specs.declared.building.Building.{Building}
 use Rattle.listing.specs.Lines.{Weighs, outcome_said}
-use Rattle.listing.specs.Openings.{project_map, account_with}
+use Rattle.factors.specs.Layers.{project_map}
+use Rattle.listing.specs.Openings.{account_with}
 use Rattle.listing.proofs.opening.Opening.book.Goals as goal
 
 pub returns : goal.returns

@@ -1,7 +1,7 @@
 use Rattle.std.proofs.Common.{◌≡◌, None, vec_items, sym, subst}
 use Rattle.feed.specs.Buildings.{IsBuilding}
 use Rattle.listing.specs.Openings.{Rows, Begins, building, none}
-use Rattle.listing.proofs.Begun.{not_both, rest_left}
+use Rattle.feed.proofs.Beginning.{not_both, rest_left}
 use Rattle.listing.proofs.opening.Opening.read.Goals as goal
 
 pub returns-in_default : goal.returns-in_default

@@ -1,0 +1,25 @@
+// The factors of a project.
+ghost use Rattle.factors.specs.Layers.{project_map};
+
+use crate::defaults::Defaults;
+use crate::lack::Lack;
+use crate::list::ProjectList;
+use crate::recycled::Recycled;
+use crate::source::FactorSource;
+use feed::factor::{Factor, FactorRow};
+
+// Recycled material, over the built-in factors, over the rows of the project's own list.
+#[derive(Clone, Copy, Debug, PartialEq, Eq)]
+pub struct ProjectFactors<'a> {
+    pub rows: &'a [FactorRow],
+}
+
+impl<'a> FactorSource for ProjectFactors<'a> {
+    ghost known = { λ s. project_map s.rows.now };
+
+    fn factor(&self, code: u32) -> Result<Factor, Lack> {
+        let list = ProjectList { rows: self.rows };
+        let defaults = Defaults { below: list };
+        Recycled { below: defaults }.factor(code)
+    }
+}
