@@ -1,5 +1,5 @@
 mod Added
-mod Awarding
+pub mod Awarding
 mod Energy
 mod First
 mod Ratio

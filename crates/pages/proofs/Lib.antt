@@ -3,3 +3,4 @@ pub mod Parts
 pub mod Telescope
 pub mod Nearby
 pub mod Drawing
+pub mod Shown

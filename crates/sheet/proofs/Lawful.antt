@@ -1,9 +1,7 @@
 -- The law over the calls of a sheet. Assumes nothing.
-use Rattle.std.proofs.Common.{◌≡◌, ℕ, ◌+◌, ◌*◌, List, [], ◌∷◌, ◌++◌, length, take, drop, map, Some, None, Option, Ok, Err, Result, Bool, true, false, if◌then◌else◌, ℤ, pos, ◌+ℤ◌, ◌*ℤ◌, ◌≤ℤ◌, sym, refl, ap, ◌∙◌, subst, arith}
+use Rattle.std.proofs.Common.{◌≡◌, ℕ, ◌+◌, ◌*◌, List, [], ◌∷◌, ◌++◌, take, map, Some, None, Option, Ok, Err, Result, Bool, true, false, if◌then◌else◌, ℤ, pos, ◌+ℤ◌, ◌*ℤ◌, ◌≤ℤ◌, sym, refl, ap, ◌∙◌, subst, arith}
 use Rattle.std.proofs.lemmas.Int.{ints}
 use Rattle.std.proofs.Math.Nat.{mul-pos}
-use Rattle.std.proofs.Math.Seq.{take-append_seam}
-use Rattle.std.proofs.lemmas.List.FromFn.{length-map-range_with_len}
 use Rattle.std.proofs.lemmas.List.Elements.{All-nil, All-cons}
 use Rattle.std.specs.List.{All, AllByRecursion}
 use Rattle.std.specs.Option.{option_to_list}
@@ -18,13 +16,14 @@ use Rattle.booking.specs.declared.entry.Entry.{Entry}
 use Rattle.booking.specs.Booked.{booked, exact_grams}
 use Rattle.booking.specs.Rows.{RowRange, subtracted}
 use Rattle.booking.proofs.Kept.{row_kept, exact_divides}
-use Rattle.totals.specs.Sums.{Sums, sum_in}
+use Rattle.totals.specs.Sums.{sum_in}
 use Rattle.grades.specs.Grades.{weight, Awarded}
 use Rattle.pages.specs.declared.figure.Figure.{Figure}
 use Rattle.pages.specs.Cuts.{Assignment}
-use Rattle.pages.specs.Pages.{Writes, heading_figure, page_figures, total_figure, run, NearGrams}
+use Rattle.pages.specs.Pages.{Writes, total_figure, run, NearGrams}
 use Rattle.pages.proofs.Nearby.{near_run}
 use Rattle.pages.proofs.Parts.{additive}
+use Rattle.pages.proofs.Shown.{shown}
 use Rattle.pages.proofs.Telescope.{adds_up}
 use Rattle.sheet.specs.Histories.{Pages, Grades, Event, sent, paged, graded, Run, new, send, page, grade, sends}
 use Rattle.sheet.specs.Laws.{Near, LawfulPage, LawfulGrade, NoneAccepted, Lawful}
@@ -50,11 +49,6 @@ near_exact kg g n x h a b =
       least = omega (arith, ints, b.most, scale_le _ _ d up, apart (pos 2 *ℤ g) (pos 2) d, apart k (pos 2000) d, apart k (pos (2000 + n)) d);
       most = omega (arith, ints, b.least, scale_le _ _ d down, apart k (pos 2) d, apart (pos 2 *ℤ g) (pos 2000) d);
     }
-
--- a page has a figure for each heading
-figures_each : (cut : Assignment) (sums : Sums) → length (page_figures cut sums) ≡ cut.size
-unfolding page_figures
-figures_each cut sums = length-map-range_with_len (heading_figure cut sums) 1 cut.size
 
 module _ (b : BuildingNumbers) (known : Map) where
   abbrev y : ℕ
@@ -153,14 +147,14 @@ module _ (b : BuildingNumbers) (known : Map) where
         let adds = additive _ _ rows.0 rows.1 in
         let sums = booked_sums y known entries in
         let w : Writes cut sums before (Ok total) after = subst (λ x. Writes cut x before (Ok total) after) sums_are p.writes in
-        let shown : take cut.size after ≡ page_figures cut sums = ap (take cut.size) w.places ∙ subst (λ n. take n (page_figures cut sums ++ drop cut.size before) ≡ page_figures cut sums) (figures_each cut sums) (take-append_seam (page_figures cut sums) (drop cut.size before)) in
+        let figures = shown cut sums before total after w in
         record {
           entries = entries;
           counts = counts;
-          headings = shown;
+          headings = figures;
           totals = w.answer.1;
-          near = λ i j l m. near_exact _ _ _ _ (divides_sum _ entries kept) (rw shown (near_run cut p.lawful sums adds i j l m)) (away_sum y known (λ row. run i j (cut.heading row)) entries kept);
-          adds = rw (shown, w.answer.1) (adds_up cut p.lawful sums adds);
+          near = λ i j l m. near_exact _ _ _ _ (divides_sum _ entries kept) (rw figures (near_run cut p.lawful sums adds i j l m)) (away_sum y known (λ row. run i j (cut.heading row)) entries kept);
+          adds = rw (figures, w.answer.1) (adds_up cut p.lawful sums adds);
         }
 
     graded_by : s.building ≡ b → (n : ℕ) → Grades s n → LawfulGrade b known sent_bytes n
