@@ -1,6 +1,6 @@
 // Figures at the ends of the ranges, worked out by hand and compared by booking them.
 use booking::{Entry, Quantity, book};
-use factors::ProjectList;
+use factors::{BuiltIn, FactorSource, ProjectList};
 use feed::building::{Building, BuildingNumbers};
 use feed::entry::EntryHead;
 use feed::factor::FactorRow;
@@ -56,4 +56,13 @@ fn the_heaviest_entry(rt: HostRuntime) {
         Ok(100_000_000_000_000)
     );
     assert_eq!(rt; outcome(2, 11, most, 1_000_000_000), Err(10));
+}
+
+// What lies beside the codes of the built-in table, and the ends of a code's width.
+#[test]
+fn no_other_code(rt: HostRuntime) {
+    for code in [0, 2, 100, 116, 1_000_101, u32::MAX] {
+        let amount = BuiltIn.factor(code).map(|factor| factor.amount);
+        assert_eq!(rt; amount.ok(), None, "{code}");
+    }
 }

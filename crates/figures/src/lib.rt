@@ -3,8 +3,6 @@
 
 #[cfg(test)]
 mod bounds;
-#[cfg(test)]
-mod refrigerants;
 mod worked;
 
 pub use worked::worked_figures;

@@ -1,0 +1,14 @@
+-- The buildings that are asked about. Assumes nothing.
+use Rattle.std.specs.Prelude.{ℕ}
+use Rattle.feed.specs.declared.building.BuildingNumbers.{BuildingNumbers}
+
+-- a square metre, which is ten tenths of one, for a year
+abbrev pub square_metre : (region sun building_type reference : ℕ) → BuildingNumbers
+square_metre region sun building_type reference = record {
+  area = 10;
+  life = 1;
+  region = region;
+  sun = sun;
+  building_type = building_type;
+  reference = reference;
+}

@@ -1,0 +1,39 @@
+// Whether a building is given a grade, by what the energy of its use weighs.
+ghost use Rattle.std.specs.Prelude.{◌≡◌, ℕ, ◌+◌, ◌^◌, ◌<◌, ◌↔◌, IsTrue, pos};
+ghost use Rattle.feed.specs.Buildings.{numbers_of};
+ghost use Rattle.totals.specs.Sums.{sums_of};
+ghost use Rattle.grades.specs.Grades.{grade_number, weight};
+ghost use Rattle.tables.specs.Gradings.{IsGiven, JustGiven};
+
+use booking::Row;
+use feed::building::Building;
+use grades::{Grade, grade};
+use totals::{ROWS, Totals};
+
+// Whether it is given this grade or a higher one.
+#[tactic(auto, unfolding(crate::specs::Gradings::IsGiven))]
+pub(crate) fn is_given(wanted: Grade, building: &Building, grams: u32) -> bool
+    ensures { IsTrue result ↔ IsGiven (grade_number wanted) (numbers_of building.now) grams }
+{
+    u16::from(grade(building, totals_of(grams))) >= u16::from(wanted)
+}
+
+// Whether it is given this grade or a higher one, and would not be with a gram more.
+pub(crate) fn is_just_given(wanted: Grade, building: &Building, grams: u32) -> bool
+    requires { grams + 1 < 2 ^ 32 }
+    ensures { IsTrue result ↔ JustGiven (grade_number wanted) (numbers_of building.now) grams }
+{
+    is_given(wanted, building, grams) && !is_given(wanted, building, grams + 1)
+}
+
+// A sheet with nothing but so many grams of energy that is bought for use.
+fn totals_of(bought: u32) -> Totals
+    ensures { weight (sums_of result) ≡ pos bought }
+{
+    let mut grams = [0; ROWS];
+    grams[Row::EquipmentEnergyBought.index()] = i64::from(bought);
+    Totals {
+        grams,
+        counts: [0; ROWS],
+    }
+}

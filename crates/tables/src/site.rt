@@ -1,0 +1,38 @@
+// The buildings that are asked about.
+ghost use Rattle.std.specs.Prelude.{◌≡◌};
+ghost use Rattle.codes.specs.Codes.{region_number, type_number};
+ghost use Rattle.codes.specs.Ranges.{SunRange, ReferenceRange};
+ghost use Rattle.feed.specs.Buildings.{numbers_of};
+ghost use Rattle.tables.specs.Sites.{square_metre};
+
+use codes::{BuildingType, Region};
+use feed::building::Building;
+
+// A square metre, in tenths of one.
+const AREA: u32 = 10;
+
+const LIFE: u16 = 1;
+
+// The reference of a building that has none.
+pub(crate) const NO_REFERENCE: u16 = 0;
+
+// A square metre for a year: a tenth of a kilogram per square metre and year comes to 100 grams there.
+pub(crate) fn square_metre(
+    region: Region,
+    sun: u16,
+    building_type: BuildingType,
+    reference: u16,
+) -> Building
+    requires sun { SunRange sun }
+    requires reference { ReferenceRange reference }
+    ensures { numbers_of result ≡ square_metre (region_number region) sun (type_number building_type) reference }
+{
+    Building {
+        area: AREA,
+        life: LIFE,
+        region,
+        sun,
+        building_type,
+        reference,
+    }
+}
