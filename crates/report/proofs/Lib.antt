@@ -1,0 +1,7 @@
+mod Listed
+mod Opening
+mod Sent
+mod Headings
+mod Concluding
+mod Only
+mod Enough

@@ -1,0 +1,156 @@
+-- A feed has one report. Assumes nothing.
+use Rattle.std.proofs.Common.{◌≡◌, ℕ, ◌+◌, List, [], ◌∷◌, ◌++◌, length, get_or, drop, map, reverse, take, codes, decimal, Ok, Err, Result, sym, refl, ap, ◌∙◌, subst, arith}
+use Rattle.refusals.specs.declared.refusal.Refusal.{Refusal}
+use Rattle.refusals.specs.Refusals.{refusal_number}
+use Rattle.refusals.proofs.Deciding.{least_only, unbroken}
+use Rattle.factors.specs.Maps.{Map}
+use Rattle.feed.specs.declared.building.BuildingNumbers.{BuildingNumbers}
+use Rattle.feed.specs.declared.factor.FactorRow.{FactorRow}
+use Rattle.feed.specs.Buildings.{IsBuilding, numbers_of}
+use Rattle.feed.specs.Frames.{Framed, OneNote}
+use Rattle.feed.specs.Readings.{readable}
+use Rattle.feed.proofs.Beginning.{not_both}
+use Rattle.feed.proofs.Framing.{framed_front, front_only}
+use Rattle.sheet.specs.States.{State, asked, line_sent, Sends}
+use Rattle.sheet.specs.Placing.{placing}
+use Rattle.sheet.specs.Accounts.{sendings}
+use Rattle.sheet.proofs.Accounting.{bytes_are}
+use Rattle.sheet.specs.Histories.{Run, paged, graded, new, send, page, grade, sends, Pages, Grades}
+use Rattle.sheet.specs.Lines.{lines, sums_of_lines}
+use Rattle.grades.specs.Grades.{weight}
+use Rattle.grades.proofs.Awarding.{one_grade}
+use Rattle.factors.specs.Layers.{project_map}
+use Rattle.pages.specs.declared.figure.Figure.{Figure}
+use Rattle.pages.specs.Cuts.{by_stage}
+use Rattle.pages.proofs.Shown.{shown}
+use Rattle.report.specs.Accounts.{SendsOf, ended as all_sent, unframed, note, Accounts, Concludes}
+use Rattle.report.specs.Calls.{said, send_said}
+use Rattle.report.specs.Lines.{denied_line, page_lines, grade_line}
+use Rattle.report.specs.Reports.{Reports, denied, opened as account, LawfulReport}
+use Rattle.report.proofs.Concluding.{concludes}
+use Rattle.report.specs.Projects.{sized, row_asked, Rows, ended, refused, row, with_rows, Contents, contents_with, Opens, too_long, no_building, building}
+
+-- two answers are the same: both give the same, or both refuse by the same number
+abbrev pub Same : {X : Type 0} → Result X Refusal → Result X Refusal → Type 0
+Same (Ok x) (Ok y) = x ≡ y
+Same (Ok x) (Err g) = ⊥
+Same (Err f) (Ok y) = ⊥
+Same (Err f) (Err g) = refusal_number f ≡ refusal_number g
+
+-- bytes that begin with a note are not of those that begin with none, and are not empty
+begins : (n rest bs : List ℕ) → OneNote n → bs ≡ n ++ rest → Framed bs
+begins n rest bs one cut = subst Framed (sym cut) (framed_front n rest one)
+
+not_empty : (bs : List ℕ) → Framed bs → bs ≡ [] → ⊥
+not_empty bs framed none = let e = ap length none in omega (arith, framed.head, e)
+
+sends_of_only : (bs : List ℕ) (a b : List (List ℕ)) → SendsOf bs a → SendsOf bs b → a ≡ b
+sends_of_only bs a b (all_sent none) (all_sent none') = refl
+sends_of_only bs a b (all_sent none) (unframed some other) = let e = ap length none in absurd (omega (arith, some, e))
+sends_of_only bs a b (all_sent none) (note n rest one cut more) = absurd (not_empty bs (begins n rest bs one cut) none)
+sends_of_only bs a b (unframed some other) (all_sent none) = let e = ap length none in absurd (omega (arith, some, e))
+sends_of_only bs a b (unframed some other) (unframed some' other') = refl
+sends_of_only bs a b (unframed some other) (note n rest one cut more) = absurd (other (begins n rest bs one cut))
+sends_of_only bs a b (note n rest one cut more) (all_sent none) = absurd (not_empty bs (begins n rest bs one cut) none)
+sends_of_only bs a b (note n rest one cut more) (unframed some other) = absurd (other (begins n rest bs one cut))
+sends_of_only bs a b (note {more = xs} n rest one cut more) (note {more = ys} n' rest' one' cut' more') =
+    let same = front_only n rest n' rest' one one' (sym cut ∙ cut') in
+    (λ i. same.0 i ∷ sends_of_only rest xs ys more (subst (λ m. SendsOf m ys) (sym same.1) more') i)
+
+with_same : (r r' : FactorRow) (a b : Result (List FactorRow × List ℕ) Refusal) → r ≡ r' → Same a b → Same (with_rows (r ∷ []) a) (with_rows (r' ∷ []) b)
+with_same r r' (Ok x) (Ok y) is same = (λ i. (is i ∷ (same i).0, (same i).1))
+with_same r r' (Ok x) (Err g) is same = same
+with_same r r' (Err f) (Ok y) is same = same
+with_same r r' (Err f) (Err g) is same = same
+
+rows_only : (n : ℕ) (bs : List ℕ) (a b : Result (List FactorRow × List ℕ) Refusal) → Rows n bs a → Rows n bs b → Same a b
+rows_only n bs a b (ended other) (ended other') = refl
+rows_only n bs a b (ended other) (refused first reads) = absurd (other first)
+rows_only n bs a b (ended other) (row m rest r one cut reads more is) = absurd (other (reads.0.0, reads.0.1.0))
+rows_only n bs a b (refused first reads) (ended other) = absurd (other first)
+rows_only n bs a b (refused {f = f} first reads) (refused {f = g} first' reads') = least_only (row_asked n bs) (refusal_number f) (refusal_number g) reads reads'
+rows_only n bs a b (refused {f = f} first reads) (row m rest r one cut reads' more is) = absurd (unbroken (row_asked n bs) reads'.0 (refusal_number f) reads.0)
+rows_only n bs a b (row m rest r one cut reads more is) (ended other) = absurd (other (reads.0.0, reads.0.1.0))
+rows_only n bs a b (row m rest r one cut reads more is) (refused {f = f} first reads') = absurd (unbroken (row_asked n bs) reads.0 (refusal_number f) reads'.0)
+rows_only n bs a b (row {more = xs} m rest r one cut reads more is) (row {more = ys} m' rest' r' one' cut' reads' more' is') =
+    let same = front_only m rest m' rest' one one' (sym cut ∙ cut') in
+    let tail = rows_only (n + 1) rest xs ys more (subst (λ b. Rows (n + 1) b ys) (sym same.1) more') in
+    subst (λ x. Same x b) (sym is) (subst (Same (with_rows (r ∷ []) xs)) (sym is') (with_same r r' xs ys (reads.1 ∙ sym reads'.1) tail))
+
+contents_same : (b b' : BuildingNumbers) (x y : Result (List FactorRow × List ℕ) Refusal) → b ≡ b' → Same x y → Same (contents_with b x) (contents_with b' y)
+contents_same b b' (Ok x) (Ok y) is same = (λ i. record { building = is i; rows = (same i).0; notes = (same i).1 })
+contents_same b b' (Ok x) (Err g) is same = same
+contents_same b b' (Err f) (Ok y) is same = same
+contents_same b b' (Err f) (Err g) is same = same
+
+pub opens_only : (feed : List ℕ) (a b : Result Contents Refusal) → Opens feed a → Opens feed b → Same a b
+opens_only feed a b (too_long {f = f} long) (too_long {f = g} long') = least_only (sized feed) (refusal_number f) (refusal_number g) long long'
+opens_only feed a b (too_long {f = f} long) (no_building short reads) = absurd (unbroken (sized feed) short (refusal_number f) long.0)
+opens_only feed a b (too_long {f = f} long) (building m rest x short reads one cut rows is) = absurd (unbroken (sized feed) short (refusal_number f) long.0)
+opens_only feed a b (no_building short reads) (too_long {f = f} long) = absurd (unbroken (sized feed) short (refusal_number f) long.0)
+opens_only feed a b (no_building {f = f} short reads) (no_building {f = g} short' reads') = least_only (readable (λ k. k ≡ 1) feed) (refusal_number f) (refusal_number g) reads reads'
+opens_only feed a b (no_building {f = f} short reads) (building m rest x short' reads' one cut rows is) = absurd (not_both (λ k. k ≡ 1) IsBuilding feed x f reads' reads)
+opens_only feed a b (building m rest x short reads one cut rows is) (too_long {f = f} long) = absurd (unbroken (sized feed) short (refusal_number f) long.0)
+opens_only feed a b (building m rest x short reads one cut rows is) (no_building {f = f} short' reads') = absurd (not_both (λ k. k ≡ 1) IsBuilding feed x f reads reads')
+opens_only feed a b (building {read = xs} m rest x short reads one cut rows is) (building {read = ys} m' rest' x' short' reads' one' cut' rows' is') =
+    let same = front_only m rest m' rest' one one' (sym cut ∙ cut') in
+    let read = rows_only 0 rest xs ys rows (subst (λ b. Rows 0 b ys) (sym same.1) rows') in
+    subst (λ z. Same z b) (sym is) (subst (Same (contents_with (numbers_of x) xs)) (sym is') (contents_same (numbers_of x) (numbers_of x') xs ys (reads.1 ∙ sym reads'.1) read))
+
+-- the line for a refusal depends on its number alone
+denied_same : (k : ℕ) (f g : Refusal) → refusal_number f ≡ refusal_number g → denied_line k f ≡ denied_line k g
+denied_same k f g number i = codes "denied " ++ (decimal k ++ (codes " " ++ (decimal (number i) ++ codes "\n")))
+
+-- one send of a sheet has one outcome, and one line
+send_once : (s t t' : State) (bs : List ℕ) (r r' : Result (Unit {0}) Refusal) (k : ℕ) → Sends s bs r t → Sends s bs r' t' → (t ≡ t') × (send_said k r ≡ send_said k r')
+send_once s t t' bs (Ok u) (Ok v) k a b = (a.answer.1 ∙ sym b.answer.1, refl)
+send_once s t t' bs (Ok u) (Err g) k a b = absurd (unbroken (asked s.building.life s.known bs ++ placing s.held (line_sent s bs)) a.answer.0 (refusal_number g) b.answer.0)
+send_once s t t' bs (Err f) (Ok v) k a b = absurd (unbroken (asked s.building.life s.known bs ++ placing s.held (line_sent s bs)) b.answer.0 (refusal_number f) a.answer.0)
+send_once s t t' bs (Err f) (Err g) k a b =
+    (a.refused ∙ sym b.refused, denied_same k f g (least_only (asked s.building.life s.known bs ++ placing s.held (line_sent s bs)) (refusal_number f) (refusal_number g) a.answer b.answer))
+
+module _ (b : BuildingNumbers) (known : Map) where
+  -- the same bytes, sent in the same order, lead to one sheet and to the same lines
+  sent_once : (a a' : List (List ℕ × Result (Unit {0}) Refusal)) (s s' : State) → map (λ x. x.0) a ≡ map (λ x. x.0) a' → Run b known (sendings a) s → Run b known (sendings a') s' → (s ≡ s') × (said (sendings a) ≡ said (sendings a'))
+  sent_once [] [] s s' same new new = (refl, refl)
+  sent_once [] (y ∷ a') s s' same run run' = let e = ap length same in absurd (omega (arith, e))
+  sent_once (x ∷ a) [] s s' same run run' = let e = ap length same in absurd (omega (arith, e))
+  sent_once (x ∷ a) (y ∷ a') s s' same (send {s = t} run step) (send {s = t'} run' step') =
+      let bytes : x.0 ≡ y.0 = ap (λ l. get_or l 0 []) same in
+      let tail : map (λ z. z.0) a ≡ map (λ z. z.0) a' = ap (drop 1) same in
+      let before = sent_once a a' t t' tail run run' in
+      let step'' : Sends t x.0 y.1 s' = subst (λ q. Sends q x.0 y.1 s') (sym before.0) (subst (λ bs. Sends t' bs y.1 s') (sym bytes) step') in
+      let once = send_once t s s' x.0 x.1 y.1 (length (sends (sendings a)) + 1) step step'' in
+      let place : length (sends (sendings a)) + 1 ≡ length (sends (sendings a')) + 1 = ap (λ l. length l + 1) (bytes_are a (map (λ z. z.0) a') tail ∙ sym (bytes_are a' (map (λ z. z.0) a') refl)) in
+      (once.0, λ i. before.1 i ++ (once.1 ∙ ap (λ k. send_said k y.1) place) i)
+
+  -- and then to one page by stage and one grade
+  ends_once : (a a' : List (List ℕ × Result (Unit {0}) Refusal)) (s s' : State) (places places' after after' : List Figure) (total total' : Figure) (n n' : ℕ) → map (λ x. x.0) a ≡ map (λ x. x.0) a' → Run b known (graded n ∷ (paged by_stage places (Ok total) after ∷ sendings a)) s → Run b known (graded n' ∷ (paged by_stage places' (Ok total') after' ∷ sendings a')) s' → said (graded n ∷ (paged by_stage places (Ok total) after ∷ sendings a)) ≡ said (graded n' ∷ (paged by_stage places' (Ok total') after' ∷ sendings a'))
+  ends_once a a' s s' places places' after after' total total' n n' same (grade (page run pages) grades) (grade (page run' pages') grades') =
+      let sent = sent_once a a' s s' same run run' in
+      let pages'' : Pages s by_stage places' (Ok total') after' = subst (λ q. Pages q by_stage places' (Ok total') after') (sym sent.0) pages' in
+      let grades'' : Grades s n' = subst (λ q. Grades q n') (sym sent.0) grades' in
+      let figures : take 4 after ≡ take 4 after' = shown by_stage (sums_of_lines (lines s.held)) places total after pages.writes ∙ sym (shown by_stage (sums_of_lines (lines s.held)) places' total' after' pages''.writes) in
+      let totals : total ≡ total' = pages.writes.answer.1 ∙ sym pages''.writes.answer.1 in
+      let grade_is : n ≡ n' = one_grade s.building (weight (sums_of_lines (lines s.held))) n n' grades grades'' in
+      (λ i. (sent.1 i ++ page_lines (figures i) (totals i)) ++ grade_line (grade_is i))
+
+account_only : (c : Contents) (text other : List ℕ) → Accounts c text → Accounts c other → text ≡ other
+account_only c text other a a' =
+    let sends = sends_of_only c.notes a.sends a'.sends a.sent a'.sent in
+    let bytes : map (λ x. x.0) a.calls.answered ≡ map (λ x. x.0) a'.calls.answered = a.calls.sent ∙ ap reverse sends ∙ sym a'.calls.sent in
+    a.written ∙ ends_once c.building (project_map c.rows) a.calls.answered a'.calls.answered a.calls.last a'.calls.last a.places a'.places a.after a'.after a.total a'.total a.grade a'.grade bytes a.calls.run a'.calls.run ∙ sym a'.written
+
+pub report_only : (feed text other : List ℕ) → Reports feed text → Reports feed other → text ≡ other
+report_only feed text other (denied {f = f} opens is) (denied {f = g} opens' is') =
+    is ∙ denied_same 0 f g (opens_only feed (Err f) (Err g) opens opens') ∙ sym is'
+report_only feed text other (denied {f = f} opens is) (account {c = c} opens' a) = absurd (opens_only feed (Err f) (Ok c) opens opens')
+report_only feed text other (account {c = c} opens a) (denied {f = f} opens' is) = absurd (opens_only feed (Ok c) (Err f) opens opens')
+report_only feed text other (account {c = c} opens a) (account {c = d} opens' a') =
+    account_only c text other a (subst (λ x. Accounts x other) (sym (opens_only feed (Ok c) (Ok d) opens opens')) a')
+
+-- the law over histories holds of a report
+pub report_lawful : (feed text : List ℕ) → Reports feed text → LawfulReport feed text
+report_lawful feed text (denied {f = f} opens is) c opens' = absurd (opens_only feed (Err f) (Ok c) opens opens')
+report_lawful feed text (account {c = d} opens a) c opens' =
+    subst (λ x. Concludes x text) (opens_only feed (Ok d) (Ok c) opens opens') (concludes d text a)

@@ -1,0 +1,75 @@
+-- What a feed opens with: its building, and the project's own factors. Assumes nothing.
+use Rattle.std.specs.Prelude.{◌≡◌, ℕ, ◌+◌, ◌<◌, ◌≤◌, List, [], ◌∷◌, ◌++◌, length, Some, None, Ok, Err, Option, Result, vec_items}
+use Rattle.refusals.specs.declared.refusal.Refusal.{Refusal}
+use Rattle.refusals.specs.Refusals.{Conditions, Least, Kept, Decided, refusal_number}
+use Rattle.feed.specs.declared.building.Building.{Building}
+use Rattle.feed.specs.declared.building.BuildingNumbers.{BuildingNumbers}
+use Rattle.feed.specs.declared.factor.FactorRow.{FactorRow}
+use Rattle.feed.specs.Buildings.{IsBuilding, numbers_of}
+use Rattle.feed.specs.Factors.{IsFactorRow}
+use Rattle.feed.specs.Frames.{OneNote, RowFirst, first_note}
+use Rattle.feed.specs.Readings.{Reads, readable}
+use Rattle.report.specs.declared.project.Project.{Project}
+use Rattle.report.specs.declared.project.ProjectError.{ProjectError}
+use Rattle.report.specs.declared.project.ProjectError.TheVariants.{Refused, OutOfMemory}
+
+-- what is asked of a feed before any note of it is read
+abbrev pub sized : List ℕ → Conditions
+sized feed = (25, length feed ≤ 65536) ∷ []
+
+-- what is asked of bytes from which a factor row is read, after n others
+abbrev pub row_asked : ℕ → List ℕ → Conditions
+row_asked n bs = readable (λ k. k ≡ 2) bs ++ ((24, n < 256) ∷ [])
+
+-- r is what reading it answers
+abbrev pub ReadsRow : ℕ → List ℕ → Result FactorRow Refusal → Type 0
+ReadsRow n bs r = Decided (row_asked n bs) (IsFactorRow (first_note bs)) r
+
+-- factor rows and the bytes after them, or why one is refused; with these rows before them
+abbrev pub with_rows : List FactorRow → Result (List FactorRow × List ℕ) Refusal → Result (List FactorRow × List ℕ) Refusal
+with_rows before (Ok read) = Ok (before ++ read.0, read.1)
+with_rows before (Err f) = Err f
+
+-- the run of factor rows that bytes begin with, after n others: they end where no row comes next, or at the first that is refused
+pub data Rows : ℕ → List ℕ → Result (List FactorRow × List ℕ) Refusal → Type 0 where
+  ended : {n : ℕ} {bs : List ℕ} → (RowFirst bs → ⊥) → Rows n bs (Ok ([], bs))
+  refused : {n : ℕ} {bs : List ℕ} {f : Refusal} → RowFirst bs → ReadsRow n bs (Err f) → Rows n bs (Err f)
+  row : {n : ℕ} {bs : List ℕ} {all more : Result (List FactorRow × List ℕ) Refusal} (note rest : List ℕ) (r : FactorRow) → OneNote note → bs ≡ note ++ rest → ReadsRow n bs (Ok r) → Rows (n + 1) rest more → all ≡ with_rows (r ∷ []) more → Rows n bs all
+
+-- a building, the project's own factors, and the bytes after them, from which all else is sent
+pub record Contents : Type 0 where
+  pub building : BuildingNumbers
+  pub rows : List FactorRow
+  pub notes : List ℕ
+
+-- with what was read after a building
+abbrev pub contents_with : BuildingNumbers → Result (List FactorRow × List ℕ) Refusal → Result Contents Refusal
+contents_with b (Ok read) = Ok (record { building = b; rows = read.0; notes = read.1 })
+contents_with b (Err f) = Err f
+
+-- what a feed opens with: it is not too long, its first note is a building, and none of the factor rows after that is refused
+pub data Opens (feed : List ℕ) : Result Contents Refusal → Type 0 where
+  too_long : {f : Refusal} → Least (sized feed) (refusal_number f) → Opens feed (Err f)
+  no_building : {f : Refusal} → Kept (sized feed) → Reads {X = Building} (λ k. k ≡ 1) IsBuilding feed (Err f) → Opens feed (Err f)
+  building : {all : Result Contents Refusal} {read : Result (List FactorRow × List ℕ) Refusal} (note rest : List ℕ) (b : Building) → Kept (sized feed) → Reads (λ k. k ≡ 1) IsBuilding feed (Ok b) → OneNote note → feed ≡ note ++ rest → Rows 0 rest read → all ≡ contents_with (numbers_of b) read → Opens feed all
+
+-- a project by what its feed opens with
+abbrev pub contents_of : Project → Contents
+contents_of p = record { building = numbers_of p.building; rows = vec_items p.rows; notes = p.notes.now }
+
+-- an error says that memory does not suffice
+abbrev pub ForMemory : ProjectError → Type 0
+ForMemory (Refused f) = ⊥
+ForMemory (OutOfMemory e) = Unit {0}
+
+-- r is what reading a project answers, where memory suffices
+abbrev pub ReadsProject : List ℕ → Result Project ProjectError → Type 0
+ReadsProject feed (Ok p) = Opens feed (Ok (contents_of p))
+ReadsProject feed (Err (Refused f)) = Opens feed (Err f)
+ReadsProject feed (Err (OutOfMemory e)) = Unit {0}
+
+-- r is what is answered of the bytes after n rows: a row, none where no row comes next, or why it is refused
+abbrev pub AnswersRow : ℕ → List ℕ → Result (Option FactorRow) Refusal → Type 0
+AnswersRow n bs (Ok (Some r)) = ReadsRow n bs (Ok r)
+AnswersRow n bs (Ok None) = RowFirst bs → ⊥
+AnswersRow n bs (Err f) = RowFirst bs × ReadsRow n bs (Err f)
