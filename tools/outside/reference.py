@@ -3,14 +3,24 @@
 Written from the rules alone, without sight of the program. Whole numbers and
 fractions throughout: no floating number takes part in any step.
 
-`report(feed)` gives the program's standard output. Running this file tests it
-against the worked example and the figures that the rules name.
+`report(feed)` gives the program's standard output.
 """
 
 from fractions import Fraction
 from typing import NamedTuple
 
 import tables
+from sources import (
+    KILOGRAM,
+    SQUARE_METRE,
+    TONNE,
+    TONNE_KILOMETRE,
+    Factor,
+    defaults,
+    nearest,
+    project_list,
+    recycled,
+)
 
 LARGEST_FEED = 65_536
 MOST_FACTOR_ROWS = 256
@@ -21,8 +31,6 @@ LARGEST_PRODUCT = 10**18
 
 BUILDING, FACTOR_ROW, ENTRY, MEASURED_ENTRY, WITHDRAWAL = 1, 2, 3, 4, 5
 LENGTHS = {BUILDING: 18, FACTOR_ROW: 14, ENTRY: 28, MEASURED_ENTRY: 28, WITHDRAWAL: 12}
-
-TONNE, CUBIC_METRE, KWH, KILOGRAM, TONNE_KILOMETRE, PIECE, SQUARE_METRE = range(1, 8)
 
 
 class Refused(Exception):
@@ -41,11 +49,6 @@ def need(truth, number):
     """
     if not truth:
         raise Refused(number)
-
-
-def nearest(numerator, denominator):
-    """The whole number nearest to a fraction, a half going up, also below zero."""
-    return (2 * numerator + denominator) // (2 * denominator)
 
 
 # Notes ---------------------------------------------------------------------
@@ -97,11 +100,6 @@ def read_building(kind, note):
     return building
 
 
-class Factor(NamedTuple):
-    amount: int  # tenths of a gram for one unit
-    unit: int
-
-
 def read_factor_row(kind, note):
     """A code, which may be any, and the factor under it."""
     need(kind == FACTOR_ROW, 2)
@@ -144,60 +142,6 @@ def measured_thousandths(bits):
     need(value is not None and 0 <= value <= 1_000_000, 7)
     thousandths = value * 1000
     return nearest(thousandths.numerator, thousandths.denominator)
-
-
-# Factor sources -------------------------------------------------------------
-# A source is a function from a code to a Factor or to a Lack naming a code.
-
-
-class Lack(NamedTuple):
-    code: int
-
-
-def project_list(rows):
-    """The first row with the code answers, so later ones are not filed."""
-    filed = {}
-    for code, factor in rows:
-        filed.setdefault(code, factor)
-    return lambda code: filed.get(code, Lack(code))
-
-
-def built_in(code):
-    if code == tables.GRID_CODE:
-        return Factor(tables.GRID_AMOUNT, KWH)
-    if code in tables.REFRIGERANT_AMOUNTS:
-        return Factor(tables.REFRIGERANT_AMOUNTS[code], KILOGRAM)
-    return Lack(code)
-
-
-def defaults(below):
-    """What the source below has; else the built-in factor; else the lack below."""
-
-    def source(code):
-        found = below(code)
-        if isinstance(found, Factor):
-            return found
-        standard = built_in(code)
-        return standard if isinstance(standard, Factor) else found
-
-    return source
-
-
-def recycled(below):
-    """Codes of the seventh digit one stand for the reused form of the code
-    without it, at half its amount, provided that is told by the tonne."""
-
-    def source(code):
-        if not 1_000_001 <= code <= 1_999_999:
-            return below(code)
-        found = below(code - 1_000_000)
-        if isinstance(found, Lack):
-            return found
-        if found.unit != TONNE:
-            return Lack(code)
-        return Factor(nearest(found.amount, 2), TONNE)
-
-    return source
 
 
 # Rows -----------------------------------------------------------------------
@@ -463,52 +407,3 @@ def report(feed):
     lines.append(b"total %d %d\n" % (kilograms, count))
     lines.append(b"grade %d\n" % grade(energy_grams(grams), sheet.building))
     return b"".join(lines)
-
-
-# Self-test ------------------------------------------------------------------
-
-
-def book_agrees_with_roll(sheet):
-    held = [note.line for note in sheet.book.values() if note.line is not None]
-    assert sorted(held) == sorted(sheet.counted_lines())
-
-
-def headings_keep_their_promise(sheet):
-    """Any run of headings, in grams, lies nearer than 1,000 and half its count to
-    the exact sum of its entries; and the headings add up to the total."""
-    exact = dict.fromkeys(range(1, 23), Fraction(0))
-    for line in sheet.counted_lines():
-        exact[line.row] += sign(line.row) * exact_grams(line, sheet.building, sheet.source)
-    headings, total = page_figures(*sheet.row_sums())
-    assert total == tuple(map(sum, zip(*headings)))
-    for first in range(4):
-        for last in range(first, 4):
-            run = headings[first : last + 1]
-            printed = 1000 * sum(kilograms for kilograms, _ in run)
-            count = sum(number for _, number in run)
-            truth = sum(exact[row] for rows in STAGES[first : last + 1] for row in rows)
-            assert abs(printed - truth) < 1000 + Fraction(count, 2)
-
-
-def self_test():
-    # Not before now: these modules aim with the reference, and so import it.
-    import feeds
-    from known import known_answers
-
-    for name, feed, expected in known_answers():
-        got = report(feed)
-        assert got == expected, f"{name}: {got!r} in place of {expected!r}"
-    tried = 0
-    for _, feed in feeds.random_feeds(seed=0, count=40 * len(feeds.FAMILIES)):
-        try:
-            sheet, _ = open_and_send(feed)
-        except Refused:
-            continue
-        book_agrees_with_roll(sheet)
-        headings_keep_their_promise(sheet)
-        tried += 1
-    print(f"reference: {len(known_answers())} known answers, {tried} random sheets, all well")
-
-
-if __name__ == "__main__":
-    self_test()

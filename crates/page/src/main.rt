@@ -1,9 +1,10 @@
 // Prints the report of the feed on standard input.
 #![tactic(auto)]
 
-use report::report_of;
+use report::{read_feed, report};
 
 fn main(rt: HostRuntime) -> anyhow::Result<()> {
-    rt.print(report_of(rt.alloc(), rt.stdin())?)?;
+    let feed = read_feed(rt.alloc(), rt.stdin())?;
+    rt.print(report(rt.alloc(), feed.as_slice())?)?;
     Ok(())
 }

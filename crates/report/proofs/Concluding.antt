@@ -12,10 +12,10 @@ use Rattle.sheet.proofs.Lawful.{lawful}
 use Rattle.report.specs.Accounts.{AllSent, Accounts, Concludes}
 use Rattle.report.specs.Calls.{said, PageWritten}
 use Rattle.report.specs.Lines.{page_lines, grade_line}
-use Rattle.report.specs.Projects.{Contents}
+use Rattle.report.specs.Projects.{ProjectParts}
 
 -- all is sent, then comes a page, and then the grade
-pub written : (c : Contents) (rows : List FactorRow) (s : State) (refused lines last text : List ℕ) (n : ℕ) → rows ≡ c.rows → AllSent c.building (project_map rows) c.notes s refused → PageWritten s lines → Grades s n → last ≡ grade_line n → text ≡ (refused ++ lines) ++ last → Accounts c text
+pub written : (c : ProjectParts) (rows : List FactorRow) (s : State) (refused lines last text : List ℕ) (n : ℕ) → rows ≡ c.rows → AllSent c.building (project_map rows) c.notes s refused → PageWritten s lines → Grades s n → last ≡ grade_line n → text ≡ (refused ++ lines) ++ last → Accounts c text
 written c rows s refused lines last text n same sent page_of grade_of is text_is =
     let all = subst (λ (xs : List FactorRow). AllSent c.building (project_map xs) c.notes s refused) same sent in
     record {
@@ -30,7 +30,7 @@ written c rows s refused lines last text n same sent page_of grade_of is text_is
     }
 
 -- the law over histories holds of the page and the grade of an account
-pub concludes : (c : Contents) (text : List ℕ) → Accounts c text → Concludes c text
+pub concludes : (c : ProjectParts) (text : List ℕ) → Accounts c text → Concludes c text
 concludes c text a =
     let known = project_map c.rows in
     let calls = sendings a.calls.answered in
@@ -46,5 +46,5 @@ concludes c text a =
       grade = a.grade;
       written = a.written ∙ append_assoc (said calls) (page_lines (take 4 a.after) a.total) (grade_line a.grade);
       page = subst (λ bs. LawfulPage c.building.life known bs by_stage (take 4 a.after) a.total) bytes (law.pages (graded a.grade ∷ []) calls by_stage a.total a.places a.after refl);
-      graded = subst (λ bs. LawfulGrade c.building known bs a.grade) bytes (law.grades [] (page_call ∷ calls) a.grade refl);
+      award = subst (λ bs. LawfulGrade c.building known bs a.grade) bytes (law.grades [] (page_call ∷ calls) a.grade refl);
     }

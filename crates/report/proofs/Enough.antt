@@ -6,7 +6,7 @@ use Rattle.std.specs.Option.{option_map}
 use Rattle.refusals.specs.Refusals.{refusal_number, Least}
 use Rattle.refusals.proofs.Deciding.{least_here}
 use Rattle.report.specs.Projects.{sized, too_long, no_building, building}
-use Rattle.report.specs.Reports.{Reports, denied, opened}
+use Rattle.report.specs.Reports.{Reports, denied, account}
 
 -- what is longer than a feed may be is refused for that alone
 long_only : (feed other text : List ℕ) → 65536 < length feed → 65536 < length other → Reports feed text → Reports other text
@@ -15,7 +15,7 @@ long_only feed other text more more' (denied {f = f} (too_long least) is) =
     denied (too_long (subst (Least (sized other)) (sym number) (least_here 25 [] (λ few. omega (arith, few)) tt))) is
 long_only feed other text more more' (denied (no_building short reads) is) = absurd (omega (arith, short.0))
 long_only feed other text more more' (denied (building n rest b short reads one cut rows all) is) = absurd (omega (arith, short.0))
-long_only feed other text more more' (opened (building n rest b short reads one cut rows all) a) = absurd (omega (arith, short.0))
+long_only feed other text more more' (account (building n rest b short reads one cut rows all) a) = absurd (omega (arith, short.0))
 
 -- the report of the first bytes, one more than a feed may have, is that of all
 pub enough : (feed text : List ℕ) → Reports (take 65537 feed) text → Reports feed text
@@ -24,8 +24,11 @@ enough feed text reports =
     (λ long. long_only (take 65537 feed) feed text (omega (arith, length-take-le 65537 feed long)) (omega (arith, long)) reports)
     (order (length feed) 65537)
 
--- of the bytes that are read up to there, where it is known what a reader still has
-pub enough_read : (remaining : Option (List ℕ)) (n : ℕ) (before bytes text : List ℕ) → n ≡ 65537 → before ≡ [] → IfSome (option_map (take n) remaining) (λ more. bytes ≡ before ++ more) → Reports bytes text → IfSome remaining (λ feed. Reports feed text)
-enough_read None n before bytes text limit empty read reports = tt
-enough_read (Some feed) n before bytes text limit empty read reports =
-    enough feed text (subst (λ bs. Reports bs text) (read ∙ (λ i. empty i ++ take (limit i) feed)) reports)
+-- what is read up to there, where it is known what a reader still has
+pub read_to : (remaining : Option (List ℕ)) (n : ℕ) (before bytes : List ℕ) → n ≡ 65537 → before ≡ [] → IfSome (option_map (take n) remaining) (λ more. bytes ≡ before ++ more) → IfSome remaining (λ feed. bytes ≡ take 65537 feed)
+read_to None n before bytes limit empty read = tt
+read_to (Some feed) n before bytes limit empty read = read ∙ (λ i. empty i ++ take (limit i) feed)
+
+pub enough_read : (remaining : Option (List ℕ)) (bytes : List ℕ) → IfSome remaining (λ feed. bytes ≡ take 65537 feed) → IfSome remaining (λ feed. (text : List ℕ) → Reports bytes text → Reports feed text)
+enough_read None bytes read = tt
+enough_read (Some feed) bytes read = λ text reports. enough feed text (subst (λ bs. Reports bs text) read reports)

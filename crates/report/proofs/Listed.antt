@@ -8,12 +8,16 @@ use Rattle.feed.specs.declared.reader.Reader.{Reader}
 use Rattle.feed.specs.Feeds.{Answer, text, left_of, Answered, IsLeft}
 use Rattle.feed.proofs.Beginning.{handed}
 use Rattle.feed.proofs.Running.{hands_next, hands_note}
-use Rattle.report.specs.Projects.{ReadsRow, AnswersRow, Rows, ended, refused, row, with_rows}
+use Rattle.report.specs.Projects.{ReadsRow, AnswersRow, Rows, ended, refused, row, with_row}
 
--- rows before rows
-with_more : (a b : List FactorRow) (more : Result (List FactorRow × List ℕ) Refusal) → with_rows a (with_rows b more) ≡ with_rows (a ++ b) more
-with_more a b (Ok read) = ap (λ l. Ok (l, read.1)) (sym (append_assoc a b read.0))
-with_more a b (Err f) = refl
+-- rows, before what is read after them
+abbrev pub with_rows : List FactorRow → Result (List FactorRow × List ℕ) Refusal → Result (List FactorRow × List ℕ) Refusal
+with_rows before (Ok read) = Ok (before ++ read.0, read.1)
+with_rows before (Err f) = Err f
+
+with_next : (before : List FactorRow) (r : FactorRow) (more : Result (List FactorRow × List ℕ) Refusal) → with_rows before (with_row r more) ≡ with_rows (before ++ (r ∷ [])) more
+with_next before r (Ok read) = ap (λ l. Ok (l, read.1)) (sym (append_assoc before (r ∷ []) read.0))
+with_next before r (Err f) = refl
 
 with_none : (more : Result (List FactorRow × List ℕ) Refusal) → with_rows [] more ≡ more
 with_none (Ok read) = refl
@@ -34,7 +38,7 @@ module _ (bytes : List ℕ) (r : Reader) (rows : List FactorRow) (old : Sofar by
       let hands = handed r a t step reads_left.0.0 in
       record {
         before = λ more h.
-            subst (Rows 0 bytes) (with_more rows (f ∷ []) more ∙ ap (λ l. with_rows l more) (sym is))
+            subst (Rows 0 bytes) (with_next rows f more ∙ ap (λ l. with_rows l more) (sym is))
             (old.before _ (row (text hands.0) (left_of t) f (hands_note r hands.0 t hands.1) (sym (hands_next r hands.0 t hands.1)) reads_left
             (subst (λ n. Rows n (left_of t) more) (ap length is ∙ length_push rows f) h) refl));
       }

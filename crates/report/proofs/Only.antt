@@ -26,9 +26,9 @@ use Rattle.pages.proofs.Shown.{shown}
 use Rattle.report.specs.Accounts.{SendsOf, ended as all_sent, unframed, note, Accounts, Concludes}
 use Rattle.report.specs.Calls.{said, send_said}
 use Rattle.report.specs.Lines.{denied_line, page_lines, grade_line}
-use Rattle.report.specs.Reports.{Reports, denied, opened as account, LawfulReport}
+use Rattle.report.specs.Reports.{Reports, denied, account, LawfulReport}
 use Rattle.report.proofs.Concluding.{concludes}
-use Rattle.report.specs.Projects.{sized, row_asked, Rows, ended, refused, row, with_rows, Contents, contents_with, Opens, too_long, no_building, building}
+use Rattle.report.specs.Projects.{sized, row_asked, Rows, ended, refused, row, with_row, ProjectParts, parts_with, Opens, too_long, no_building, building}
 
 -- two answers are the same: both give the same, or both refuse by the same number
 abbrev pub Same : {X : Type 0} → Result X Refusal → Result X Refusal → Type 0
@@ -57,7 +57,7 @@ sends_of_only bs a b (note {more = xs} n rest one cut more) (note {more = ys} n'
     let same = front_only n rest n' rest' one one' (sym cut ∙ cut') in
     (λ i. same.0 i ∷ sends_of_only rest xs ys more (subst (λ m. SendsOf m ys) (sym same.1) more') i)
 
-with_same : (r r' : FactorRow) (a b : Result (List FactorRow × List ℕ) Refusal) → r ≡ r' → Same a b → Same (with_rows (r ∷ []) a) (with_rows (r' ∷ []) b)
+with_same : (r r' : FactorRow) (a b : Result (List FactorRow × List ℕ) Refusal) → r ≡ r' → Same a b → Same (with_row r a) (with_row r' b)
 with_same r r' (Ok x) (Ok y) is same = (λ i. (is i ∷ (same i).0, (same i).1))
 with_same r r' (Ok x) (Err g) is same = same
 with_same r r' (Err f) (Ok y) is same = same
@@ -75,15 +75,15 @@ rows_only n bs a b (row m rest r one cut reads more is) (refused {f = f} first r
 rows_only n bs a b (row {more = xs} m rest r one cut reads more is) (row {more = ys} m' rest' r' one' cut' reads' more' is') =
     let same = front_only m rest m' rest' one one' (sym cut ∙ cut') in
     let tail = rows_only (n + 1) rest xs ys more (subst (λ b. Rows (n + 1) b ys) (sym same.1) more') in
-    subst (λ x. Same x b) (sym is) (subst (Same (with_rows (r ∷ []) xs)) (sym is') (with_same r r' xs ys (reads.1 ∙ sym reads'.1) tail))
+    subst (λ x. Same x b) (sym is) (subst (Same (with_row r xs)) (sym is') (with_same r r' xs ys (reads.1 ∙ sym reads'.1) tail))
 
-contents_same : (b b' : BuildingNumbers) (x y : Result (List FactorRow × List ℕ) Refusal) → b ≡ b' → Same x y → Same (contents_with b x) (contents_with b' y)
-contents_same b b' (Ok x) (Ok y) is same = (λ i. record { building = is i; rows = (same i).0; notes = (same i).1 })
-contents_same b b' (Ok x) (Err g) is same = same
-contents_same b b' (Err f) (Ok y) is same = same
-contents_same b b' (Err f) (Err g) is same = same
+parts_same : (b b' : BuildingNumbers) (x y : Result (List FactorRow × List ℕ) Refusal) → b ≡ b' → Same x y → Same (parts_with b x) (parts_with b' y)
+parts_same b b' (Ok x) (Ok y) is same = (λ i. record { building = is i; rows = (same i).0; notes = (same i).1 })
+parts_same b b' (Ok x) (Err g) is same = same
+parts_same b b' (Err f) (Ok y) is same = same
+parts_same b b' (Err f) (Err g) is same = same
 
-pub opens_only : (feed : List ℕ) (a b : Result Contents Refusal) → Opens feed a → Opens feed b → Same a b
+pub opens_only : (feed : List ℕ) (a b : Result ProjectParts Refusal) → Opens feed a → Opens feed b → Same a b
 opens_only feed a b (too_long {f = f} long) (too_long {f = g} long') = least_only (sized feed) (refusal_number f) (refusal_number g) long long'
 opens_only feed a b (too_long {f = f} long) (no_building short reads) = absurd (unbroken (sized feed) short (refusal_number f) long.0)
 opens_only feed a b (too_long {f = f} long) (building m rest x short reads one cut rows is) = absurd (unbroken (sized feed) short (refusal_number f) long.0)
@@ -95,7 +95,7 @@ opens_only feed a b (building m rest x short reads one cut rows is) (no_building
 opens_only feed a b (building {read = xs} m rest x short reads one cut rows is) (building {read = ys} m' rest' x' short' reads' one' cut' rows' is') =
     let same = front_only m rest m' rest' one one' (sym cut ∙ cut') in
     let read = rows_only 0 rest xs ys rows (subst (λ b. Rows 0 b ys) (sym same.1) rows') in
-    subst (λ z. Same z b) (sym is) (subst (Same (contents_with (numbers_of x) xs)) (sym is') (contents_same (numbers_of x) (numbers_of x') xs ys (reads.1 ∙ sym reads'.1) read))
+    subst (λ z. Same z b) (sym is) (subst (Same (parts_with (numbers_of x) xs)) (sym is') (parts_same (numbers_of x) (numbers_of x') xs ys (reads.1 ∙ sym reads'.1) read))
 
 -- the line for a refusal depends on its number alone
 denied_same : (k : ℕ) (f g : Refusal) → refusal_number f ≡ refusal_number g → denied_line k f ≡ denied_line k g
@@ -135,7 +135,7 @@ module _ (b : BuildingNumbers) (known : Map) where
       let grade_is : n ≡ n' = one_grade s.building (weight (sums_of_lines (lines s.held))) n n' grades grades'' in
       (λ i. (sent.1 i ++ page_lines (figures i) (totals i)) ++ grade_line (grade_is i))
 
-account_only : (c : Contents) (text other : List ℕ) → Accounts c text → Accounts c other → text ≡ other
+account_only : (c : ProjectParts) (text other : List ℕ) → Accounts c text → Accounts c other → text ≡ other
 account_only c text other a a' =
     let sends = sends_of_only c.notes a.sends a'.sends a.sent a'.sent in
     let bytes : map (λ x. x.0) a.calls.answered ≡ map (λ x. x.0) a'.calls.answered = a.calls.sent ∙ ap reverse sends ∙ sym a'.calls.sent in

@@ -16,7 +16,7 @@ use Rattle.feed.proofs.Beginning.{rest_left}
 use Rattle.report.specs.declared.project.Project.{Project}
 use Rattle.report.specs.declared.project.ProjectError.{ProjectError}
 use Rattle.report.specs.declared.project.ProjectError.TheVariants.{Refused, OutOfMemory}
-use Rattle.report.specs.Projects.{ForMemory, sized, Rows, contents_with, Opens, too_long, building, ReadsProject}
+use Rattle.report.specs.Projects.{ForMemory, sized, Rows, parts_with, Opens, too_long, building, ReadsProject}
 use Rattle.feed.specs.Buildings.{numbers_of}
 
 module _ (feed : List ℕ) where
@@ -33,7 +33,7 @@ module _ (feed : List ℕ) where
 
   -- a feed that begins with a building opens with it and the rows after it
   module _ (short : Kept (sized feed)) (b : Building) (reads : Reads (λ k. k ≡ 1) IsBuilding feed (Ok b)) (r : Reader) (a : Answer) (t : Reader) (start : Opened feed r) (step : Answered r a t) where
-    pub opens_with : (read : Result (List FactorRow × List ℕ) Refusal) → Rows 0 (left_of t) read → Opens feed (contents_with (numbers_of b) read)
+    pub opens_with : (read : Result (List FactorRow × List ℕ) Refusal) → Rows 0 (left_of t) read → Opens feed (parts_with (numbers_of b) read)
     opens_with read rows =
         let rest = rest_left feed r a t start step reads.0.0 in
         building rest.0 (left_of t) b short reads rest.1 rest.2 rows refl

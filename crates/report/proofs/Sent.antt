@@ -61,7 +61,7 @@ module _ (b : BuildingNumbers) (known : Map) (bytes : List ℕ) where
           done = old.done ++ (text p ∷ []);
           answered = (text p, step.answer) ∷ old.answered;
           answers = answers_more (text p);
-          run = send old.run step.sends;
+          run = send old.run step.step;
           same = said_more p t line pushed longer step hands.place is told;
           places = let e = old.places in omega (arith, hands.notes, e);
           before = λ more h. subst (SendsOf bytes) (sym (append_assoc old.done (text p ∷ []) more)) (old.before _ (note (text p) (left_of u) (hands_note r p u hands) (sym (hands_next r p u hands)) h));
@@ -87,7 +87,7 @@ module _ (b : BuildingNumbers) (known : Map) (bytes : List ℕ) where
           sent = old.before _ (subst (λ bs. SendsOf bs (text left ∷ [])) is_left.bytes (unframed more (subst (λ bs. Framed bs → ⊥) (sym is_left.bytes) other)));
           answered = (text left, step.answer) ∷ old.answered;
           answers = answers_more (text left);
-          run = send old.run step.sends;
+          run = send old.run step.step;
           written = said_more left t line pushed longer step is_left.place is told;
         }
 

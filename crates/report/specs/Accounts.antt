@@ -13,7 +13,7 @@ use Rattle.sheet.specs.Laws.{LawfulPage, LawfulGrade}
 use Rattle.sheet.specs.States.{State}
 use Rattle.report.specs.Calls.{said}
 use Rattle.report.specs.Lines.{page_lines, grade_line}
-use Rattle.report.specs.Projects.{Contents}
+use Rattle.report.specs.Projects.{ProjectParts}
 
 -- what is sent of bytes: each of their notes, and then what is left, if any is, that begins with none
 pub data SendsOf : List ℕ → List (List ℕ) → Type 0 where
@@ -31,7 +31,7 @@ pub record AllSent (b : BuildingNumbers) (known : Map) (bs : List ℕ) (t : Stat
   pub written : text ≡ said (sendings answered)
 
 -- the account of a project is what is written of just these calls of its sheet: all is sent, then comes a page by stage, and then the grade
-pub record Accounts (c : Contents) (text : List ℕ) : Type 0 where
+pub record Accounts (c : ProjectParts) (text : List ℕ) : Type 0 where
   pub sends : List (List ℕ)
   pub sent : SendsOf c.notes sends
   pub places : List Figure
@@ -41,8 +41,8 @@ pub record Accounts (c : Contents) (text : List ℕ) : Type 0 where
   pub calls : Accounted c.building (project_map c.rows) sends by_stage places (Ok total) after grade
   pub written : text ≡ said (graded grade ∷ (paged by_stage places (Ok total) after ∷ sendings calls.answered))
 
--- an account ends with a page and a grade of which the law over histories holds
-pub record Concludes (c : Contents) (text : List ℕ) : Type 0 where
+-- an account ends with a page and a grade of which the law over histories holds; what stands before them, `Accounts` says
+pub record Concludes (c : ProjectParts) (text : List ℕ) : Type 0 where
   pub sends : List (List ℕ)
   pub sent : SendsOf c.notes sends
   pub before : List ℕ
@@ -51,4 +51,4 @@ pub record Concludes (c : Contents) (text : List ℕ) : Type 0 where
   pub grade : ℕ
   pub written : text ≡ before ++ (page_lines figures total ++ grade_line grade)
   pub page : LawfulPage c.building.life (project_map c.rows) (reverse sends) by_stage figures total
-  pub graded : LawfulGrade c.building (project_map c.rows) (reverse sends) grade
+  pub award : LawfulGrade c.building (project_map c.rows) (reverse sends) grade

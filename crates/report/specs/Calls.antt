@@ -12,12 +12,12 @@ abbrev pub send_said : ℕ → Result (Unit {0}) Refusal → List ℕ
 send_said place (Ok u) = []
 send_said place (Err f) = denied_line place f
 
--- of a page: its figures, where it is not refused
+-- of a page: its figures, or nothing where it is refused, as none is in an account
 abbrev pub page_said : Assignment → Result Figure Refusal → List Figure → List ℕ
 page_said cut (Ok total) after = page_lines (take cut.size after) total
 page_said cut (Err f) after = []
 
--- of calls, the latest of them first, what is written in their order; a send has the place that it has among the sends
+-- of calls, the latest of them first, what is written in their order. A send's place is one more than the sends before it, refused ones included
 abbrev pub said : List Event → List ℕ
 said [] = []
 said (sent bs r ∷ before) = said before ++ send_said (length (sends before) + 1) r
@@ -27,7 +27,7 @@ said (graded n ∷ before) = said before ++ grade_line n
 -- a sheet s is sent bytes at a place among its sends: it is t then, and this is written of it
 pub record SendWritten (s : State) (place : ℕ) (bs : List ℕ) (t : State) (text : List ℕ) : Type 0 where
   pub answer : Result (Unit {0}) Refusal
-  pub sends : Sends s bs answer t
+  pub step : Sends s bs answer t
   pub written : text ≡ send_said place answer
 
 -- a page by stage is drawn from the sheet s, and this is written of it

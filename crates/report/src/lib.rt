@@ -1,4 +1,4 @@
-// What is written for a feed: the sends that are refused, the page by stage, and the grade.
+// What is written for a feed: why it is refused before anything is sent, or which sends are, the page by stage, and the grade.
 #![tactic(auto)]
 
 mod account;
@@ -9,5 +9,5 @@ mod sending;
 mod whole;
 
 pub use lines::{denied_line, grade_line, page_lines, stage_line, total_line};
-pub use reading::report_of;
+pub use reading::read_feed;
 pub use whole::report;

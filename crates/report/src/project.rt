@@ -57,11 +57,11 @@ impl<'a> Project<'a> {
         let building = Building::read(feed)?;
         // Past the first note, which is the building.
         let mut reader = Reader::new(feed);
-        let _ = reader.next();
+        reader.next()?;
         let mut rows = Vec::new(heap);
         while let Some(row) = read_row(reader.left().bytes, rows.len())? {
             rows.push(row)?;
-            let _ = reader.next();
+            reader.next()?;
         }
         Ok(Project {
             building,

@@ -7,7 +7,7 @@ use crate::lines::denied_line;
 use crate::project::{Project, ProjectError};
 use std::alloc::{AllocError, Global};
 
-// What is written for a feed. It is refused where its beginning is, which is one line; else each send that is refused has a line, and the page by stage and the grade follow.
+// What is written for a feed. One whose beginning is refused has a line for that. Any other has a line for each send that is refused, then the page by stage and the grade.
 pub fn report(heap: Global, feed: &[u8]) -> Result<String, AllocError>
     ensures value { IfOk result (λ text. Reports feed.now (string_bytes text)) }
     ensures only { IfOk result (λ text. (other : List ℕ) → Reports feed.now other → other ≡ string_bytes text) }

@@ -1,6 +1,6 @@
 use Rattle.std.proofs.Common.{Err, string_bytes}
 use Rattle.std.proofs.lemmas.Result.{IfOk-weaker}
-use Rattle.report.specs.Reports.{Reports, denied, opened}
+use Rattle.report.specs.Reports.{Reports, denied, account}
 use Rattle.report.specs.Projects.{Opens}
 use Rattle.report.proofs.Only.{report_only, report_lawful}
 use Rattle.report.proofs.whole.report.Goals as goal
@@ -8,7 +8,7 @@ use Rattle.report.proofs.whole.report.Goals as goal
 pub returns-in-Ok : goal.returns-in-Ok
 returns-in-Ok c =
     let feed = c.args.feed.now in
-    let value = IfOk-weaker c.account.result _ (λ s. Reports feed (string_bytes s)) (λ s a. opened c.in-Ok.ensures a) c.account.ensures in
+    let value = IfOk-weaker c.account.result _ (λ s. Reports feed (string_bytes s)) (λ s a. account c.in-Ok.ensures a) c.account.ensures in
     record {
       value = value;
       only = IfOk-weaker c.account.result _ _ (λ s reports other more. report_only feed other (string_bytes s) more reports) value;
