@@ -33,6 +33,18 @@ def worked_example():
     return plan.feed()
 
 
+WORKED_REPORT = page(
+    "denied 3 21",
+    "denied 5 8",
+    "1 1750 1",
+    "2 0 0",
+    "3 350000 2",
+    "4 0 0",
+    "total 351750 3",
+    "grade 2",
+)
+
+
 def entries_of_one_thousandth(amount):
     """Five hundred: half a kilogram if each books a gram, nothing if none does."""
     plan = Plan(rows=[(7, Factor(amount, 1))])
@@ -110,20 +122,7 @@ BARE = ("1 0 0", "2 0 0", "3 0 0", "4 0 0", "total 0 0", "grade 2")
 def known_answers():
     """Name, feed and output, each output set down by hand from the rules."""
     return (
-        (
-            "the worked example",
-            worked_example(),
-            page(
-                "denied 3 21",
-                "denied 5 8",
-                "1 1750 1",
-                "2 0 0",
-                "3 350000 2",
-                "4 0 0",
-                "total 351750 3",
-                "grade 2",
-            ),
-        ),
+        ("the worked example", worked_example(), WORKED_REPORT),
         (
             "half a gram books one",
             entries_of_one_thousandth(5_000),

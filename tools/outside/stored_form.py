@@ -1,7 +1,7 @@
 """Stored runs told by the form of their feed: what is refused before the notes, what
 is too long, and what cannot be framed."""
 
-from known import BARE, of_grams, of_rows, page, worked_example
+from known import BARE, WORKED_REPORT, of_grams, of_rows, page, worked_example
 from notes import GRAM, HOUSE, Plan, building_note, entry_note, factor_note, framed
 from reference import Factor, Line
 
@@ -14,16 +14,7 @@ ROW_WITH_UNIT_8 = factor_note(8, Factor(1, 8))
 
 def first_feeds():
     # The house of the rules.
-    yield "worked_house", worked_example(), page(
-        "denied 3 21",
-        "denied 5 8",
-        "1 1750 1",
-        "2 0 0",
-        "3 350000 2",
-        "4 0 0",
-        "total 351750 3",
-        "grade 2",
-    )
+    yield "worked_house", worked_example(), WORKED_REPORT
     # No bytes, and so no building.
     yield "empty", b"", page("denied 0 1")
     # A length and a kind take four bytes.
