@@ -87,18 +87,8 @@ nearest_up w rest d b l =
 pub stays : (r : ℤ) (d : ℕ) → 0 < d → nearest (over (r *ℤ pos d) d) ≡ r
 stays r d h = ap (λ n. nearest (over n d)) (sym (+ℤ_idr (r *ℤ pos d))) ∙ sym (nearest_down r 0 d h)
 
-adds : (n r : ℤ) (d : ℕ) → 0 < d → nearest (over (n +ℤ r *ℤ pos d) d) ≡ nearest (over n d) +ℤ r
-adds n r d h =
-    let x = over n d in
-    let y = over (n +ℤ r *ℤ pos d) d in
-    let a = is_nearest x h in
-    let b = below (nearest x) x a in
-    let e = apart (nearest x) r d in
-    nearest_only y _ _ h (is_nearest y h)
-    (record { near = record { least = omega (arith, ints, a.near.least); most = omega (arith, ints) }; upper = λ half. omega (arith, ints, half) })
-
 pub rounding : Rounding nearest
-rounding = record { is_nearest = is_nearest; only = λ x r h a. nearest_only x r (nearest x) h a (is_nearest x h); stays = stays; adds = adds; monotone = nearest_mono }
+rounding = record { is_nearest = is_nearest; only = λ x r h a. nearest_only x r (nearest x) h a (is_nearest x h); stays = stays; monotone = nearest_mono }
 
 -- a natural number's fraction: what is nearest to it is no less than 0, and 0 below a half
 pub nearest_natural : (n d : ℕ) → 0 < d → pos 0 ≤ℤ nearest (over (pos n) d)

@@ -49,5 +49,4 @@ pub record Rounding (round : Fraction → ℤ) : Type 0 where
   pub is_nearest : (x : Fraction) → Divides x → Nearest (round x) x
   pub only : (x : Fraction) (r : ℤ) → Divides x → Nearest r x → r ≡ round x
   pub stays : (r : ℤ) (d : ℕ) → 0 < d → round (over (r *ℤ pos d) d) ≡ r
-  pub adds : (n r : ℤ) (d : ℕ) → 0 < d → round (over (n +ℤ r *ℤ pos d) d) ≡ round (over n d) +ℤ r
   pub monotone : (x y : Fraction) → Divides x → Divides y → NoLarger x y → round x ≤ℤ round y
