@@ -1,6 +1,6 @@
 // The kinds of notes.
 ghost use Rattle.std.specs.Prelude.{◌≡◌, Some};
-ghost use Rattle.codes.specs.Codes.{kind_number, note_length};
+ghost use Rattle.codes.specs.Codes.{kind_number};
 ghost use Rattle.codes.specs.Ranges.{KindRange};
 ghost use Rattle.codes.specs.Words.{kind_word};
 ghost use Rattle.refusals.specs.declared.refusal.Refusal.TheVariants.{UnwantedKind};
@@ -16,20 +16,6 @@ pub enum Kind {
     Counted = 3,
     Measured = 4,
     Withdrawal = 5,
-}
-
-impl Kind {
-    // How many bytes a note of this kind has. For who writes notes: who reads them has each length in a type.
-    pub fn length(self) -> usize
-        ensures { result ≡ note_length (kind_number self) }
-    {
-        match self {
-            Kind::Building => 18,
-            Kind::Factor => 14,
-            Kind::Counted | Kind::Measured => 28,
-            Kind::Withdrawal => 12,
-        }
-    }
 }
 
 impl TryFrom<u16> for Kind {
