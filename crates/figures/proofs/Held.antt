@@ -6,8 +6,8 @@ use Rattle.booking.specs.Booked.{content}
 use Rattle.totals.specs.Sums.{sum_in, by_row}
 use Rattle.pages.specs.Pages.{page_figures}
 use Rattle.figures.specs.Figures.{figures, Held}
-use Rattle.figures.proofs.Withdrawn.{refused, let_in, counts}
+use Rattle.figures.proofs.Withdrawn.{refused, none_counts, counts}
 
 pub figures_hold : Held figures
 unfolding nearest content round sum_in by_row page_figures
-figures_hold = search (rules, refused, let_in, counts)
+figures_hold = search (rules, refused, none_counts, counts)

@@ -11,7 +11,7 @@ use Rattle.booking.specs.declared.quantity.Quantity.TheVariants.{Counted, Measur
 use Rattle.booking.specs.Booked.{content, booked}
 use Rattle.booking.specs.Quantities.{QuantityInRange, booked_thousandths}
 use Rattle.figures.specs.Headings.{Prints}
-use Rattle.figures.specs.Withdrawals.{RefusedBy, LetIn, CountsAt}
+use Rattle.figures.specs.Withdrawals.{RefusedBy, NoneCounts, CountsAt}
 
 -- an entry of so many counted thousandths
 abbrev pub entry_of : (row span code thousandths : ℕ) → Entry
@@ -28,7 +28,7 @@ Measures n d thousandths =
     QuantityInRange (Measured (round binary64 false n d)) × (booked_thousandths (Measured (round binary64 false n d)) ≡ thousandths)
 
 -- a thousandth of a tonne at 5,000 and at 4,999; 0.0625 and 0.0624 measured; a kilogram of R-134a in equipment of 15 years; 30 tonnes over 500 kilometres at 1,290; recycled material, the new material being at 5;
--- three headings of 400 grams, and two of 500 and -1,000; of a number that is withdrawn at revision 2, an entry at 1, and one at 3
+-- three headings of 400 grams, and two of 500 and -1,000; of a number that is withdrawn at revision 2, an entry at 1 that is refused, what counts after it, and what counts after one at 3
 abbrev pub figures : List (Type 0)
 figures =
     ComesTo 1 (λ c. has 5000 1) (entry_of 1 0 7 1) 1
@@ -41,8 +41,8 @@ figures =
     ∷ Prints (pos 400 ∷ (pos 400 ∷ (pos 400 ∷ []))) (pos 0 ∷ (pos 1 ∷ (pos 0 ∷ [])))
     ∷ Prints (pos 500 ∷ (neg_ℤ (pos 1000) ∷ [])) (pos 1 ∷ (neg_ℤ (pos 1) ∷ []))
     ∷ RefusedBy 1 21
-    ∷ LetIn 3
-    ∷ CountsAt 3
+    ∷ NoneCounts 1
+    ∷ CountsAt 1 3
     ∷ []
 
 -- each of them holds

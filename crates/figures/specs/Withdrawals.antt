@@ -1,12 +1,14 @@
 -- A number that is withdrawn at revision 2, and entries under it at other revisions. Assumes nothing.
-use Rattle.std.specs.Prelude.{◌≡◌, ℕ, List, [], ◌∷◌, Some, None}
-use Rattle.refusals.specs.Refusals.{Kept, Least}
+use Rattle.std.specs.Prelude.{◌≡◌, ℕ, List, [], ◌∷◌, Some, None, Ok, Result}
+use Rattle.std.specs.Result.{IsErrAnd}
+use Rattle.refusals.specs.declared.refusal.Refusal.{Refusal}
+use Rattle.refusals.specs.Refusals.{refusal_number, Kept}
 use Rattle.factors.specs.Maps.{Map}
+use Rattle.feed.specs.declared.building.BuildingNumbers.{BuildingNumbers}
 use Rattle.booking.specs.declared.entry.Entry.{Entry}
-use Rattle.sheet.specs.Notes.{Note, taken_of}
-use Rattle.sheet.specs.Places.{Taken}
-use Rattle.sheet.specs.Placing.{placing, placed}
-use Rattle.sheet.specs.Rolls.{Decides}
+use Rattle.sheet.specs.Notes.{Note}
+use Rattle.sheet.specs.Rolls.{note_sent, Counts}
+use Rattle.sheet.specs.States.{State, opened, asked, Sends}
 
 abbrev pub withdrawal : Note
 withdrawal = record { number = 1; revision = 2; entry = None }
@@ -15,19 +17,29 @@ withdrawal = record { number = 1; revision = 2; entry = None }
 abbrev pub entry_at : (revision : ℕ) → Entry → Note
 entry_at revision e = record { number = 1; revision = revision; entry = Some e }
 
--- a book, in a building of y years at the factors of a map, that holds the withdrawal alone
-abbrev pub withdrawn : ℕ → Map → List Taken
-withdrawn y known = taken_of y known withdrawal ∷ []
+-- bytes by which a note is sent, its content being fit in a building with a life of y years, at the factors of a map
+pub record SentAs (y : ℕ) (known : Map) (note : Note) (bs : List ℕ) : Type 0 where
+  pub fit : Kept (asked y known bs)
+  pub says : note_sent bs ≡ note
 
--- an entry at this revision is refused by the number n, whatever it says
+-- a sheet that is just opened lets the withdrawal in, and then refuses a fit entry at this revision by the number n
 abbrev pub RefusedBy : (revision n : ℕ) → Type 0
-RefusedBy revision n = (y : ℕ) (known : Map) (e : Entry) → Least (placing (withdrawn y known) (taken_of y known (entry_at revision e))) n
+RefusedBy revision n =
+    (b : BuildingNumbers) (known : Map) (e : Entry) (gone late : List ℕ) (s t : State) (r : Result (Unit {0}) Refusal)
+    → SentAs b.life known withdrawal gone → Sends (opened b known) gone (Ok tt) s
+    → SentAs b.life known (entry_at revision e) late → Sends s late r t
+    → IsErrAnd r (λ f. refusal_number f ≡ n)
 
--- an entry at this revision is let in, and is all that the book then holds
-abbrev pub LetIn : (revision : ℕ) → Type 0
-LetIn revision =
-    (y : ℕ) (known : Map) (e : Entry) → Kept (placing (withdrawn y known) (taken_of y known (entry_at revision e))) × (placed (taken_of y known (entry_at revision e)) (withdrawn y known) ≡ taken_of y known (entry_at revision e) ∷ [])
+-- after the withdrawal, and an entry at this revision that comes late, nothing counts
+abbrev pub NoneCounts : (revision : ℕ) → Type 0
+NoneCounts revision =
+    (y : ℕ) (known : Map) (e : Entry) (gone late : List ℕ)
+    → SentAs y known withdrawal gone → SentAs y known (entry_at revision e) late
+    → Counts y known (late ∷ (gone ∷ [])) []
 
--- an entry at this revision counts, after the withdrawal and an entry at revision 1 that came late
-abbrev pub CountsAt : (revision : ℕ) → Type 0
-CountsAt revision = (late e : Entry) → Decides (entry_at revision e ∷ (entry_at 1 late ∷ (withdrawal ∷ []))) 1 (entry_at revision e)
+-- and where a third note, an entry at this revision, comes after those two, it counts
+abbrev pub CountsAt : (late revision : ℕ) → Type 0
+CountsAt l revision =
+    (y : ℕ) (known : Map) (e new : Entry) (gone late next : List ℕ)
+    → SentAs y known withdrawal gone → SentAs y known (entry_at l e) late → SentAs y known (entry_at revision new) next
+    → Counts y known (next ∷ (late ∷ (gone ∷ []))) (new ∷ [])

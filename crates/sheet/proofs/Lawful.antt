@@ -31,9 +31,9 @@ use Rattle.sheet.specs.Lines.{row_grams, row_count, lines, sums_of_lines, booked
 use Rattle.sheet.specs.Notes.{Note, entry_asked}
 use Rattle.sheet.specs.Rolls.{entries_of, Counts}
 use Rattle.sheet.specs.States.{State}
-use Rattle.sheet.proofs.Deciders.{decide, deciding, decides_one}
+use Rattle.sheet.proofs.Deciders.{decide}
 use Rattle.sheet.proofs.Exactly.{Fit, away_sum, lines_taken}
-use Rattle.sheet.proofs.Rolling.{roll_only}
+use Rattle.sheet.proofs.Rolling.{roll_counts}
 use Rattle.sheet.proofs.Standing.{Sound, Standing, nothing_sent, sent_once}
 
 -- near the booked grams, and these at most n halves from the exact ones
@@ -125,15 +125,7 @@ module _ (b : BuildingNumbers) (known : Map) where
     entries = entries_of (decide st.roll)
 
     counts : Counts y known sent_bytes entries
-    counts = record {
-      roll = st.roll;
-      is_roll = st.is_roll;
-      only_roll = λ other r. roll_only y known sent_bytes st.roll other st.is_roll r;
-      deciding = decide st.roll;
-      decide = deciding st.roll;
-      only_one = λ k m n p q. decides_one st.roll k m n p q;
-      counted = refl;
-    }
+    counts = roll_counts y known sent_bytes st.roll st.is_roll
 
     kept : AllByRecursion (Fit y known) entries
     kept = fit_all (decide st.roll) st.sound

@@ -5,8 +5,8 @@ use Rattle.factors.specs.Maps.{Map}
 use Rattle.sheet.specs.Notes.{Note, taken_of}
 use Rattle.sheet.specs.Places.{Taken}
 use Rattle.sheet.specs.Placing.{under, Ahead, Agrees, Among, Room, placed}
-use Rattle.sheet.specs.Rolls.{numbers, note_sent, Roll, empty, unfit, unplaced, listed}
-use Rattle.sheet.proofs.Deciders.{enter, names, by_test, same}
+use Rattle.sheet.specs.Rolls.{numbers, note_sent, Roll, empty, unfit, unplaced, listed, entries_of, Counts}
+use Rattle.sheet.proofs.Deciders.{enter, decide, deciding, decides_one, names, by_test, same}
 
 module _ (y : ℕ) (known : Map) where
   -- sends have one roll
@@ -21,6 +21,19 @@ module _ (y : ℕ) (known : Map) where
   roll_only _ _ _ (listed bs a f room) (unfit bs' b u) = absurd (f u)
   roll_only _ _ _ (listed bs a f room) (unplaced bs' b g full) = absurd (full (subst (λ r. Room (numbers r) (note_sent bs).number) (sym (roll_only _ _ _ a b)) room))
   roll_only _ _ _ (listed bs a f room) (listed bs' b g room') = ap (λ r. note_sent bs ∷ r) (roll_only _ _ _ a b)
+
+  -- by a roll of sends the entries count of the notes that decide on it
+  pub roll_counts : (sends : List (List ℕ)) (roll : List Note) → Roll y known sends roll → Counts y known sends (entries_of (decide roll))
+  roll_counts sends roll is =
+      record {
+        roll = roll;
+        is_roll = is;
+        only_roll = λ other r. roll_only sends roll other is r;
+        deciding = decide roll;
+        decide = deciding roll;
+        only_one = λ k m n p q. decides_one roll k m n p q;
+        counted = refl;
+      }
 
   abbrev line : Note → Taken
   line n = taken_of y known n
