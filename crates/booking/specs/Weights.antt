@@ -11,9 +11,12 @@ ProductRange w = w ≤ 1000000000000000000
 abbrev pub exact_divisor : ℕ → ℕ
 exact_divisor d = 10000 * d
 
--- the grams of a product in range: it is divided by 10,000 at least
+-- the most grams of a product in range: it is divided by 10,000 at least
+abbrev pub most_grams : ℕ
+most_grams = 100000000000000
+
 abbrev pub GramsRange : ℕ → Type 0
-GramsRange g = g ≤ 100000000000000
+GramsRange g = g ≤ most_grams
 
 -- grams as they count
 abbrev pub signed_grams : Bool → ℕ → ℤ

@@ -18,8 +18,8 @@ pub fn book<S: FactorSource>(
     source: &S,
     entry: &Entry,
 ) -> Result<Line, Refusal>
-    ensures value { Books building.now.life (S.FactorSource.known source.now) entry.now result }
-    ensures near { IfOk result (λ line. WithinHalf (pos line.grams) (exact_grams building.now.life (S.FactorSource.known source.now) entry.now)) }
+    ensures value { Books building.now.life (S.known source.now) entry.now result }
+    ensures near { IfOk result (λ line. WithinHalf (pos line.grams) (exact_grams building.now.life (S.known source.now) entry.now)) }
 {
     let head = entry.head;
     let row = Row::try_from(head.row)?;
@@ -42,7 +42,7 @@ pub fn book<S: FactorSource>(
 
 // The factor of a code, or the code that was asked for and the one that is lacking.
 fn ask<S: FactorSource>(source: &S, code: u32) -> Result<Factor, Lacking>
-    ensures { Told (S.FactorSource.known source.now code) code result }
+    ensures { Told (S.known source.now code) code result }
 {
     source.factor(code).map_err(|lack| Lacking {
         asked: code,

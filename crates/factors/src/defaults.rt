@@ -12,7 +12,7 @@ pub struct Defaults<S> {
 }
 
 impl<S: FactorSource> FactorSource for Defaults<S> {
-    ghost known = { λ s. with_defaults (S.FactorSource.known s.below) };
+    ghost known = { λ s. with_defaults (S.known s.below) };
 
     // Where both lack the code, it is the source below that says what is lacking.
     fn factor(&self, code: u32) -> Result<Factor, Lack> {

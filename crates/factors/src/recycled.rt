@@ -20,7 +20,7 @@ pub struct Recycled<S> {
 }
 
 impl<S: FactorSource> FactorSource for Recycled<S> {
-    ghost known = { λ s. with_recycled (S.FactorSource.known s.below) };
+    ghost known = { λ s. with_recycled (S.known s.below) };
 
     fn factor(&self, code: u32) -> Result<Factor, Lack> {
         if code <= RECYCLED || code > LAST_RECYCLED {

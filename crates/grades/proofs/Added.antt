@@ -1,7 +1,7 @@
 -- The grams of five rows, added by the machine: nothing wraps. Assumes nothing.
 use Rattle.std.proofs.Common.{◌≡◌, ℤ, pos, ◌+ℤ◌, FitsSigned, to_z, of_z, w64, arith}
 use Rattle.std.proofs.lemmas.Int.{ints, to_z-of_z}
-use Rattle.grades.specs.Sizes.{WithinTotals}
+use Rattle.totals.specs.Sizes.{WithinTotals}
 
 module _ (a b c d e : ℤ) (ha : WithinTotals a) (hb : WithinTotals b) (hc : WithinTotals c) (hd : WithinTotals d) (he : WithinTotals e) where
   sum_fits : FitsSigned w64 (((a +ℤ b) +ℤ (c +ℤ d)) +ℤ e)

@@ -5,7 +5,7 @@ use Rattle.codes.specs.Codes.{type_number}
 use Rattle.codes.specs.declared.types.BuildingType.{BuildingType}
 use Rattle.codes.specs.declared.types.BuildingType.TheVariants.{Residential, SmallOffice, LargeOffice, SmallHotel, LargeHotel, Shop, Hospital, School}
 use Rattle.codes.specs.contracts.types.BuildingType.{the_type}
-use Rattle.grades.specs.Sizes.{WithinTotals}
+use Rattle.totals.specs.Sizes.{most_size, WithinTotals}
 use denote.Enum.Bare.{sameb}
 use lib.Signed.{le_z}
 
@@ -29,6 +29,6 @@ compared w k l r p g k_is l_is r_is light small =
     let fl : FitsSigned w64 l = fits_signed_from_abs w64 l (omega arith) in
     let fr : FitsSigned w64 r = fits_signed_from_abs w64 r (omega arith) in
     let fw : FitsSigned w64 w = fits_signed_from_abs w64 w (omega arith) in
-    let left : FitsSigned w64 (k *ℤ w) = fits_signed_mul w64 k w 100 51200000000000000 hk light (omega arith) in
+    let left : FitsSigned w64 (k *ℤ w) = fits_signed_mul w64 k w 100 most_size hk light (omega arith) in
     let right : FitsSigned w64 (l *ℤ r) = fits_signed_mul w64 l r 100 10000000000000000 hl hr (omega arith) in
     simp to_z-of_z (rw (k_is, l_is, r_is) refl)

@@ -3,7 +3,7 @@ ghost use Rattle.std.specs.Prelude.{◌≡◌, ℕ, ◌↔◌, IsTrue};
 ghost use Rattle.feed.specs.Buildings.{numbers_of};
 ghost use Rattle.totals.specs.Sums.{sums_of};
 ghost use Rattle.grades.specs.Grades.{grade_number, weight, MeetsGrade, Awarded};
-ghost use Rattle.grades.specs.Sizes.{WithinTotals};
+ghost use Rattle.totals.specs.Sizes.{WithinTotals};
 
 use crate::demands::meets;
 use crate::grading::Grade;

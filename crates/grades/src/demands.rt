@@ -2,7 +2,7 @@
 ghost use Rattle.std.specs.Prelude.{◌≡◌, ◌≤◌, ◌↔◌, IsTrue, pos, unsigned_abs};
 ghost use Rattle.feed.specs.Buildings.{numbers_of};
 ghost use Rattle.grades.specs.Grades.{grams_over_life, LimitHolds, RatioHolds, Meets};
-ghost use Rattle.grades.specs.Sizes.{WithinTotals};
+ghost use Rattle.totals.specs.Sizes.{WithinTotals};
 
 use codes::BuildingType;
 use feed::building::Building;

@@ -3,7 +3,7 @@ ghost use Rattle.std.specs.Prelude.{◌≡◌, ◌-◌, slice_get, Some};
 ghost use Rattle.booking.specs.Rows.{row_number};
 ghost use Rattle.totals.specs.Sums.{sums_of};
 ghost use Rattle.grades.specs.Grades.{weight};
-ghost use Rattle.grades.specs.Sizes.{WithinTotals};
+ghost use Rattle.totals.specs.Sizes.{WithinTotals};
 
 use booking::Row;
 use totals::Totals;

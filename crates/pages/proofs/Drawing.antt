@@ -4,6 +4,7 @@ use Rattle.std.specs.List.{range_with_len}
 use Rattle.std.proofs.lemmas.Int.{ints, to_z-of_z, fits_signed_from_abs}
 use Rattle.std.proofs.lemmas.List.{drop_more, set_at}
 use Rattle.std.proofs.lemmas.List.FromFn.{map-range_with_len_more, length-map-range_with_len}
+use Rattle.totals.specs.Sizes.{most_size, most_count}
 use Rattle.totals.specs.Sums.{by_row, sums_of}
 use Rattle.totals.specs.declared.totals.Totals.{Totals}
 use Rattle.totals.proofs.Adding.{whole, natural, one_alone, sum_most, counts_most}
@@ -18,7 +19,7 @@ use Rattle.pages.proofs.Nearby.{is_rounded}
 read_back : (z : ℤ) → unsigned_abs z < 2 ^ 63 → to_z w64 (of_z w64 z) ≡ z
 read_back z h = to_z-of_z w64 z (fits_signed_from_abs w64 z h)
 
-small_kilograms : (g : ℤ) → unsigned_abs g ≤ 51200000000000000 → unsigned_abs (kilograms g) ≤ 51200000000001
+small_kilograms : (g : ℤ) → unsigned_abs g ≤ most_size → unsigned_abs (kilograms g) ≤ 51200000000001
 small_kilograms g h = let r = is_rounded g in omega (arith, ints, r.least, r.most)
 
 -- one more figure behind those that are written
@@ -33,10 +34,10 @@ figure_more f k before l =
     ∙ ap (λ fs. fs ++ drop (k + 1) before) (sym (map-range_with_len_more f 1 k (k + 1) (omega arith)))
 
 module _ (cut : Assignment) (t : Totals) where
-  light_grams : (choice : ℕ → Bool) → unsigned_abs ((under cut (sums_of t)).grams choice) ≤ 51200000000000000
+  light_grams : (choice : ℕ → Bool) → unsigned_abs ((under cut (sums_of t)).grams choice) ≤ most_size
   light_grams choice = omega (arith, sum_most (λ row. choice (cut.heading row)) 1 t.grams, t.light)
 
-  few_counts : (choice : ℕ → Bool) → (under cut (sums_of t)).counts choice ≤ 512
+  few_counts : (choice : ℕ → Bool) → (under cut (sums_of t)).counts choice ≤ most_count
   few_counts choice = omega (arith, counts_most (λ row. choice (cut.heading row)) 1 t.counts, t.few)
 
 pub additive_sums : (t : Totals) → length t.grams ≡ 22 → length t.counts ≡ 22 → Additive (sums_of t)

@@ -10,6 +10,7 @@ use Rattle.booking.specs.Rows.{row_number}
 use Rattle.codes.specs.Ranges.{Within}
 use Rattle.pages.specs.Cuts.{Assignment, IsCut}
 use Rattle.pages.specs.Pages.{under}
+use Rattle.totals.specs.Sizes.{most_size}
 use Rattle.totals.specs.Sums.{sum_in, by_row}
 use Rattle.totals.proofs.Adding.{Adds, whole, natural, part, added, one_more, nothing, no_more, sums_in, size_most, light_fits, light_kept, sizes_added, counts_added, no_sizes, no_counts}
 
@@ -82,14 +83,14 @@ module _ (cut : Assignment) (grams : List ℤ) (counts : List ℕ) where
     counts_places = length-replicate {A = ℕ} 22 0;
   }
 
-  sizes : (gs : List ℤ) (ns : List ℕ) (i h : ℕ) → length grams ≡ 22 → sum_by unsigned_abs grams ≤ 51200000000000000 → Sofar cut grams counts gs ns i → HeadingAt cut i h → unsigned_abs (get_or gs (h - 1) (pos 0)) + unsigned_abs (get_or grams i (pos 0)) ≤ 51200000000000000
+  sizes : (gs : List ℤ) (ns : List ℕ) (i h : ℕ) → length grams ≡ 22 → sum_by unsigned_abs grams ≤ most_size → Sofar cut grams counts gs ns i → HeadingAt cut i h → unsigned_abs (get_or gs (h - 1) (pos 0)) + unsigned_abs (get_or grams i (pos 0)) ≤ most_size
   sizes gs ns i h n small sofar at =
       omega (arith, size_most gs (h - 1) (pos 0) (omega (arith, sofar.grams_places, at.within)), sum_by-drop_more unsigned_abs grams i (pos 0) (omega arith), sofar.light)
 
-  pub sum_fits : (gs : List ℤ) (ns : List ℕ) (i h : ℕ) → length grams ≡ 22 → sum_by unsigned_abs grams ≤ 51200000000000000 → Sofar cut grams counts gs ns i → HeadingAt cut i h → FitsSigned w64 (to_z w64 (of_z w64 (get_or gs (h - 1) (pos 0))) +ℤ to_z w64 (of_z w64 (get_or grams i (pos 0))))
+  pub sum_fits : (gs : List ℤ) (ns : List ℕ) (i h : ℕ) → length grams ≡ 22 → sum_by unsigned_abs grams ≤ most_size → Sofar cut grams counts gs ns i → HeadingAt cut i h → FitsSigned w64 (to_z w64 (of_z w64 (get_or gs (h - 1) (pos 0))) +ℤ to_z w64 (of_z w64 (get_or grams i (pos 0))))
   sum_fits gs ns i h n small sofar at = light_fits (get_or gs (h - 1) (pos 0)) (get_or grams i (pos 0)) (sizes gs ns i h n small sofar at)
 
-  pub one_row : (gs : List ℤ) (ns : List ℕ) (i h : ℕ) → length grams ≡ 22 → length counts ≡ 22 → sum_by unsigned_abs grams ≤ 51200000000000000 → Sofar cut grams counts gs ns i → HeadingAt cut i h → Sofar cut grams counts (set gs (h - 1) (to_z w64 (of_z w64 (to_z w64 (of_z w64 (get_or gs (h - 1) (pos 0))) +ℤ to_z w64 (of_z w64 (get_or grams i (pos 0))))))) (set ns (h - 1) (get_or ns (h - 1) 0 + get_or counts i 0)) (i + 1)
+  pub one_row : (gs : List ℤ) (ns : List ℕ) (i h : ℕ) → length grams ≡ 22 → length counts ≡ 22 → sum_by unsigned_abs grams ≤ most_size → Sofar cut grams counts gs ns i → HeadingAt cut i h → Sofar cut grams counts (set gs (h - 1) (to_z w64 (of_z w64 (to_z w64 (of_z w64 (get_or gs (h - 1) (pos 0))) +ℤ to_z w64 (of_z w64 (get_or grams i (pos 0))))))) (set ns (h - 1) (get_or ns (h - 1) 0 + get_or counts i 0)) (i + 1)
   one_row gs ns i h fg fn small sofar at =
       let exact = light_kept (get_or gs (h - 1) (pos 0)) (get_or grams i (pos 0)) (sizes gs ns i h fg small sofar at) in
       let lg : i < length grams = omega (arith, at.row) in

@@ -7,6 +7,7 @@ use Rattle.booking.specs.declared.row.Row.{Row}
 use Rattle.booking.specs.Booked.{Booked}
 use Rattle.booking.specs.Rows.{RowRange, row_number, subtracted}
 use Rattle.booking.specs.Weights.{signed_grams}
+use Rattle.totals.specs.Sizes.{most_size}
 use Rattle.totals.specs.Sums.{sum_in, grams_in, count_in, by_row}
 use Rattle.totals.proofs.Adding.{whole, natural, first, part, added, nothing, sizes_added, size_most, counts_added, light_fits, light_kept}
 use Rattle.sheet.specs.declared.book.Book.{Book}
@@ -104,7 +105,7 @@ module _ (held : List Taken) (t : Taken) (rest : List Taken) (gs : List ℤ) (ns
         }
 
     module _ (few : length held ≤ 512) (r : ℕ) (r_is : r ≡ at) (s : ℤ) (s_is : s ≡ grams) where
-      light_sum : unsigned_abs (get_or gs at d) + unsigned_abs grams ≤ 51200000000000000
+      light_sum : unsigned_abs (get_or gs at d) + unsigned_abs grams ≤ most_size
       light_sum = omega (arith, size_most gs at d (omega (arith, range, h.grams_places)), h.light, few, size_signed (subtracted l.row) l.grams, sound_range t.line l e)
 
       pub sum_fits : FitsSigned w64 (sum_of (get_or gs r d) s)

@@ -8,7 +8,7 @@ use Rattle.factors.specs.Maps.{Map}
 use Rattle.booking.specs.declared.entry.Entry.{Entry}
 use Rattle.booking.specs.Booked.{Booked, exact_grams, booked}
 use Rattle.booking.specs.Rows.{subtracted}
-use Rattle.booking.specs.Weights.{signed_grams}
+use Rattle.booking.specs.Weights.{most_grams, signed_grams}
 use Rattle.totals.specs.Sums.{Sums, sum_in, grams_in, count_in}
 use Rattle.sheet.specs.Places.{Taken}
 
@@ -26,7 +26,7 @@ sums_of_lines ls = record { grams = λ choice. grams_in choice (map row_grams ls
 -- the line of a place, if it has one whose grams are in a line's range
 abbrev pub sound : Option Booked → Option Booked
 sound None = None
-sound (Some l) = if nat_le l.grams 100000000000000 then Some l else None
+sound (Some l) = if nat_le l.grams most_grams then Some l else None
 
 -- the lines in places
 abbrev pub lines : List Taken → List Booked

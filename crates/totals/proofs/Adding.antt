@@ -4,6 +4,7 @@ use Rattle.std.proofs.lemmas.Bool.Decides.{nat_tests}
 use Rattle.std.proofs.lemmas.Int.{ints, to_z-of_z, fits_signed_from_abs}
 use Rattle.std.proofs.lemmas.List.{drop_more, drop_all}
 use Rattle.std.proofs.lemmas.List.Sums.{sum_by-set, sum_by-cons, get_or-le-sum_by}
+use Rattle.totals.specs.Sizes.{most_size}
 use Rattle.totals.specs.Sums.{sum_in, grams_in, count_in, by_row, Sums}
 
 -- what grams and counts come to, each with the number of its row
@@ -116,7 +117,7 @@ size_of_sum (pos a) (pos b) = omega (arith, ints)
 size_of_sum a b = omega (arith, ints)
 
 -- two numbers that are light together: their sum fits, and is what it is read back as
-module _ (a b : ℤ) (light : unsigned_abs a + unsigned_abs b ≤ 51200000000000000) where
+module _ (a b : ℤ) (light : unsigned_abs a + unsigned_abs b ≤ most_size) where
   kept_left : to_z w64 (of_z w64 a) ≡ a
   kept_left = to_z-of_z w64 a (fits_signed_from_abs w64 a (omega arith))
 

@@ -1,5 +1,6 @@
 // The one value that pages and grades are drawn from.
 ghost use Rattle.std.specs.Prelude.{◌≤◌, sum_by, sum, unsigned_abs};
+ghost use Rattle.totals.specs.Sizes.{most_size, most_count};
 
 // How many rows a sheet has.
 pub const ROWS: usize = 22;
@@ -10,6 +11,6 @@ pub const ROWS: usize = 22;
 pub struct Totals {
     pub grams: [i64; ROWS],
     pub counts: [u16; ROWS],
-    ghost light: { sum_by unsigned_abs grams ≤ 51200000000000000 },
-    ghost few: { sum counts ≤ 512 },
+    ghost light: { sum_by unsigned_abs grams ≤ most_size },
+    ghost few: { sum counts ≤ most_count },
 }

@@ -1,7 +1,7 @@
 use Rattle.std.proofs.Common.{subst, sym, ◌∙◌, arith}
 use Rattle.totals.specs.Sums.{sums_of}
 use Rattle.grades.specs.Grades.{energy, weight}
-use Rattle.grades.specs.Sizes.{WithinTotals}
+use Rattle.totals.specs.Sizes.{WithinTotals}
 use Rattle.grades.proofs.Added.{added_fits, added}
 use Rattle.totals.proofs.Adding.{sum_most}
 use Rattle.grades.proofs.Energy.{energy_is}
