@@ -6,7 +6,7 @@ use Rattle.std.specs.List.{flat_map, All}
 use Rattle.feed.specs.declared.reader.Part.{Part}
 use Rattle.feed.specs.declared.reader.Reader.{Reader}
 use Rattle.refusals.proofs.Numbers.{number_one}
-use Rattle.feed.specs.Feeds.{Answer, text, left_of, Hands, Stays, Spent, Answered, Run, opened, called, parts, Placed, Again, Ends, Lawful}
+use Rattle.feed.specs.Feeds.{Answer, text, left_of, Hands, Stays, Spent, Answered, ReaderRun, opened, called, parts, Placed, Again, Ends, LawfulReader}
 use Rattle.feed.specs.Frames.{Framed, OneNote}
 use Rattle.feed.proofs.Framing.{one_first, first_whole}
 
@@ -95,16 +95,16 @@ module _ (feed : List ℕ) where
     one_more (Ok None) step = stays (Ok None) refl (again_more answers r t (Ok None) old step) step.0 step.1
     one_more (Err f) step = stays (Err f) refl (again_more answers r t (Err f) old step) step.0 step.1
 
-  sofar : (answers : List Answer) (r : Reader) → Run feed answers r → Sofar feed answers r
+  sofar : (answers : List Answer) (r : Reader) → ReaderRun feed answers r → Sofar feed answers r
   sofar answers r (opened start) =
       record { whole = rw (start.bytes, start.over); bytes = start.bytes; count = start.notes; notes = λ k d h. absurd (omega (arith, h)); places = tt; again = tt; ends = tt }
   sofar answers t (called {before = before} {r = r} {a = a} run step) = one_more before r t (sofar before r run) a step
 
-  pub lawful : (answers : List Answer) (r : Reader) → Run feed answers r → Lawful feed answers (left_of r)
+  pub lawful : (answers : List Answer) (r : Reader) → ReaderRun feed answers r → LawfulReader feed answers (left_of r)
   lawful answers r run =
       let all = sofar answers r run in
       record { whole = all.whole; notes = all.notes; places = all.places; again = all.again; ends = all.ends }
 
 -- one call more of a reader
-pub lawful_call : (r : Reader) (a : Answer) (t : Reader) → Answered r a t → (feed : List ℕ) (before : List Answer) → Run feed before r → Lawful feed (a ∷ before) (left_of t)
+pub lawful_call : (r : Reader) (a : Answer) (t : Reader) → Answered r a t → (feed : List ℕ) (before : List Answer) → ReaderRun feed before r → LawfulReader feed (a ∷ before) (left_of t)
 lawful_call r a t step feed before run = lawful feed (a ∷ before) t (called run step)

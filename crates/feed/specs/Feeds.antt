@@ -59,9 +59,9 @@ Answered r (Ok None) t = Spent (Ok None) (left_of r) × Stays r t
 Answered r (Err f) t = Spent (Err f) (left_of r) × Stays r t
 
 -- calls of one reader of the feed, from its opening on, with their answers, the latest first
-pub data Run (feed : List ℕ) : List Answer → Reader → Type 0 where
-  opened : {r : Reader} → Opened feed r → Run feed [] r
-  called : {before : List Answer} {r t : Reader} {a : Answer} → Run feed before r → Answered r a t → Run feed (a ∷ before) t
+pub data ReaderRun (feed : List ℕ) : List Answer → Reader → Type 0 where
+  opened : {r : Reader} → Opened feed r → ReaderRun feed [] r
+  called : {before : List Answer} {r t : Reader} {a : Answer} → ReaderRun feed before r → Answered r a t → ReaderRun feed (a ∷ before) t
 
 -- the notes among the answers, in the order in which they were handed out
 abbrev pub parts : List Answer → List Part
@@ -93,7 +93,7 @@ Ends [] rest = Unit {0}
 Ends (a ∷ before) rest = UnlessNote a (Spent a rest)
 
 -- what holds of all answers of one reader, and of what is left of the feed after them
-pub record Lawful (feed : List ℕ) (answers : List Answer) (rest : List ℕ) : Type 0 where
+pub record LawfulReader (feed : List ℕ) (answers : List Answer) (rest : List ℕ) : Type 0 where
   pub whole : flat_map text (parts answers) ++ rest ≡ feed
   pub notes : All (λ p. OneNote (text p)) (parts answers)
   pub places : Placed 1 0 (parts answers)

@@ -27,7 +27,7 @@ pub struct Reader<'a> {
 }
 
 impl<'a> Reader<'a> {
-    ghost use Rattle.feed.specs.Feeds.{Opened, Answer, Answered, Run, Lawful, left_of, IsLeft};
+    ghost use Rattle.feed.specs.Feeds.{Opened, Answer, Answered, ReaderRun, LawfulReader, left_of, IsLeft};
 
     pub fn new(feed: &'a [u8]) -> Reader<'a>
         ensures { Opened feed.now result }
@@ -43,7 +43,7 @@ impl<'a> Reader<'a> {
     // The next note, or none where the feed has ended. Where there is none or it is refused, the reader stays, and answers the same again.
     pub fn next(&mut self) -> Result<Option<Part<'a>>, Refusal>
         ensures value { Answered self.old result self.new }
-        ensures law { (feed : List ℕ) (before : List Answer) → Run feed before self.old → Lawful feed (result ∷ before) (left_of self.new) }
+        ensures law { (feed : List ℕ) (before : List Answer) → ReaderRun feed before self.old → LawfulReader feed (result ∷ before) (left_of self.new) }
     {
         let left = self.left();
         if left.bytes.is_empty() {

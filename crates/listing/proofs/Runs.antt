@@ -10,12 +10,12 @@ use Rattle.feed.specs.Readings.{Reads}
 use Rattle.feed.proofs.Beginning.{row_alone}
 use Rattle.feed.proofs.Running.{hands_next, hands_note, no_note}
 use Rattle.refusals.specs.declared.refusal.Refusal.{Refusal}
-use Rattle.listing.specs.Openings.{Rows, row, passed, ended}
+use Rattle.listing.specs.Openings.{FitRows, row, passed, ended}
 
 -- the rows that the reader has still to come to are all that the list lacks
 pub record Sofar (bytes : List ℕ) (r : Reader) (rows : List FactorRow) : Type 0 where
   pub same : r.feed.now ≡ bytes
-  pub before : (more : List FactorRow) → Rows (left_of r) more → Rows bytes (rows ++ more)
+  pub before : (more : List FactorRow) → FitRows (left_of r) more → FitRows bytes (rows ++ more)
 
 module _ (bytes : List ℕ) (r : Reader) (rows : List FactorRow) where
   pub none_yet : Opened bytes r → rows ≡ [] → Sofar bytes r rows
@@ -23,21 +23,21 @@ module _ (bytes : List ℕ) (r : Reader) (rows : List FactorRow) where
 
   module _ (old : Sofar bytes r rows) where
     -- what comes next begins with no row
-    no_row : (RowFirst (left_of r) → ⊥) → Rows bytes rows
-    no_row other = subst (Rows bytes) (append-nil rows) (old.before [] (ended other))
+    no_row : (RowFirst (left_of r) → ⊥) → FitRows bytes rows
+    no_row other = subst (FitRows bytes) (append-nil rows) (old.before [] (ended other))
 
-    pub no_more : (n : Answer) (t : Reader) → ((p : Part) → n ≡ Ok (Some p) → ⊥) → Answered r n t → Rows bytes rows
+    pub no_more : (n : Answer) (t : Reader) → ((p : Part) → n ≡ Ok (Some p) → ⊥) → Answered r n t → FitRows bytes rows
     no_more n t other step = no_row (λ first. (no_note r n t other step).0 first.0)
 
     module _ (p : Part) (t : Reader) (step : Hands r p t) where
-      pub another_kind : (RowFirst (text p) → ⊥) → Rows bytes rows
+      pub another_kind : (RowFirst (text p) → ⊥) → FitRows bytes rows
       another_kind other = no_row (λ first. other (subst RowFirst (sym step.note) (row_alone (left_of r) first)))
 
       pub one_more : (f : FactorRow) (longer : List FactorRow) → Reads (λ k. k ≡ 2) IsFactorRow (text p) (Ok f) → longer ≡ rows ++ (f ∷ []) → Sofar bytes t longer
       one_more f longer reads is =
           record {
             same = step.over ∙ old.same;
-            before = λ more h. subst (Rows bytes) (sym (append_assoc rows (f ∷ []) more) ∙ ap (λ l. l ++ more) (sym is)) (old.before (f ∷ more) (row (text p) (left_of t) f (hands_note r p t step) (sym (hands_next r p t step)) reads h));
+            before = λ more h. subst (FitRows bytes) (sym (append_assoc rows (f ∷ []) more) ∙ ap (λ l. l ++ more) (sym is)) (old.before (f ∷ more) (row (text p) (left_of t) f (hands_note r p t step) (sym (hands_next r p t step)) reads h));
           }
 
       pub passed_over : (f : Refusal) → RowFirst (text p) → Reads {X = FactorRow} (λ k. k ≡ 2) IsFactorRow (text p) (Err f) → Sofar bytes t rows

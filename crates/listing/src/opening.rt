@@ -1,6 +1,6 @@
 // What a feed begins with: its building and its own factors.
 ghost use Rattle.std.specs.Prelude.{IfOk};
-ghost use Rattle.listing.specs.Openings.{Rows, Begins};
+ghost use Rattle.listing.specs.Openings.{FitRows, Begins};
 
 use feed::building::Building;
 use feed::factor::FactorRow;
@@ -38,7 +38,7 @@ impl Opening {
 
 // The run of factor rows that the bytes begin with. One that is refused is passed over.
 fn rows(heap: Global, bytes: &[u8]) -> Result<Vec<FactorRow>, AllocError>
-    ensures { IfOk result (λ v. Rows bytes.now v.items) }
+    ensures { IfOk result (λ v. FitRows bytes.now v.items) }
 {
     let mut rows = Vec::new(heap);
     let mut reader = Reader::new(bytes);

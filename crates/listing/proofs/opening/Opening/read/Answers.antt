@@ -1,6 +1,6 @@
 use Rattle.std.proofs.Common.{◌≡◌, None, vec_items, sym, subst}
 use Rattle.feed.specs.Buildings.{IsBuilding}
-use Rattle.listing.specs.Openings.{Rows, Begins, building, none}
+use Rattle.listing.specs.Openings.{FitRows, Begins, building, none}
 use Rattle.feed.proofs.Beginning.{not_both, rest_left}
 use Rattle.listing.proofs.opening.Opening.read.Goals as goal
 
@@ -13,5 +13,5 @@ pub returns : goal.returns
 returns c =
     let reads = c.in-Ok.ensures.value in
     let rest = rest_left c.args.feed.now c.new-reader.result c.next.result c.next.new.self c.new-reader.ensures c.next.ensures.value reads.0.0 in
-    let rows = subst (λ l. Rows l (vec_items c.in_ok-rows.rows)) c.left.ensures.bytes c.in_ok-rows.ensures in
+    let rows = subst (λ l. FitRows l (vec_items c.in_ok-rows.rows)) c.left.ensures.bytes c.in_ok-rows.ensures in
     building rest.0 _ c.in-Ok.building reads rest.1 rest.2 rows
