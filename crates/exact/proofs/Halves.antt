@@ -1,9 +1,14 @@
 -- Halves that whole numbers are away from exact ones add up. Assumes nothing.
-use Rattle.std.proofs.Common.{◌≡◌, ℕ, ◌+◌, ◌*◌, ℤ, pos, negsuc, ◌+ℤ◌, ◌*ℤ◌, neg_ℤ, ap, ◌∙◌, mul_comm, arith}
+use Rattle.std.proofs.Common.{◌≡◌, ℕ, ◌+◌, ◌*◌, ℤ, pos, negsuc, ◌+ℤ◌, ◌*ℤ◌, ◌≤ℤ◌, neg_ℤ, ap, ◌∙◌, mul_comm, arith}
 use Rattle.std.proofs.lemmas.Int.{ints}
 use Rattle.exact.specs.Rounding.{Fraction, over, WithinHalf}
-use Rattle.exact.specs.Adding.{plus, negated, WithinHalves}
+use Rattle.exact.specs.Adding.{plus, negated}
 use Rattle.exact.proofs.Products.{negative_natural, scale_le, apart, crossed, doubled}
+
+-- the whole number r is at most n halves away from x
+pub record WithinHalves (n : ℕ) (r : ℤ) (x : Fraction) : Type 0 where
+  pub least : (pos 2 *ℤ (r *ℤ pos x.divisor)) ≤ℤ (pos 2 *ℤ x.numerator +ℤ pos (n * x.divisor))
+  pub most : (pos 2 *ℤ x.numerator) ≤ℤ (pos 2 *ℤ (r *ℤ pos x.divisor) +ℤ pos (n * x.divisor))
 
 pub none_away : WithinHalves 0 (pos 0) (over (pos 0) 1)
 none_away = record { least = omega (arith, ints); most = omega (arith, ints) }

@@ -3,9 +3,9 @@ use Rattle.std.proofs.Common.{◌≡◌, ℕ, ◌+◌, ◌≤◌, List, [], ◌�
 use Rattle.std.proofs.lemmas.List.{map-append}
 use Rattle.std.specs.List.{AllByRecursion}
 use Rattle.std.specs.Option.{option_to_list}
-use Rattle.exact.specs.Adding.{plus, negated, WithinHalves}
+use Rattle.exact.specs.Adding.{plus, negated}
 use Rattle.exact.specs.Rounding.{Fraction}
-use Rattle.exact.proofs.Halves.{none_away, one_away, away_negated, away_plus}
+use Rattle.exact.proofs.Halves.{WithinHalves, none_away, one_away, away_negated, away_plus}
 use Rattle.refusals.specs.Refusals.{Kept}
 use Rattle.factors.specs.Maps.{Map}
 use Rattle.booking.specs.declared.entry.Entry.{Entry}

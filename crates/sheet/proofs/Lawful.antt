@@ -5,8 +5,9 @@ use Rattle.std.proofs.Math.Nat.{mul-pos}
 use Rattle.std.proofs.lemmas.List.Elements.{All-nil, All-cons}
 use Rattle.std.specs.List.{All, AllByRecursion}
 use Rattle.std.specs.Option.{option_to_list}
-use Rattle.exact.specs.Adding.{plus, negated, WithinHalves}
+use Rattle.exact.specs.Adding.{plus, negated}
 use Rattle.exact.specs.Rounding.{Fraction, Divides}
+use Rattle.exact.proofs.Halves.{WithinHalves}
 use Rattle.exact.proofs.Products.{scale_le, apart, doubled}
 use Rattle.refusals.specs.declared.refusal.Refusal.{Refusal}
 use Rattle.refusals.specs.Refusals.{Kept}
