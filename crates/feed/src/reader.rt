@@ -22,8 +22,8 @@ pub struct Reader<'a> {
     start: usize,
     // how many notes they were
     handed: usize,
-    ghost within: { start ≤ length feed.now },
-    ghost few: { handed ≤ start },
+    ghost start_within: { start ≤ length feed.now },
+    ghost handed_within: { handed ≤ start },
 }
 
 impl<'a> Reader<'a> {

@@ -35,10 +35,10 @@ figure_more f k before l =
 
 module _ (cut : Assignment) (t : Totals) where
   light_grams : (choice : ℕ → Bool) → unsigned_abs ((under cut (sums_of t)).grams choice) ≤ most_size
-  light_grams choice = omega (arith, sum_most (λ row. choice (cut.heading row)) 1 t.grams, t.light)
+  light_grams choice = omega (arith, sum_most (λ row. choice (cut.heading row)) 1 t.grams, t.grams_within)
 
   few_counts : (choice : ℕ → Bool) → (under cut (sums_of t)).counts choice ≤ most_count
-  few_counts choice = omega (arith, counts_most (λ row. choice (cut.heading row)) 1 t.counts, t.few)
+  few_counts choice = omega (arith, counts_most (λ row. choice (cut.heading row)) 1 t.counts, t.counts_within)
 
 pub additive_sums : (t : Totals) → length t.grams ≡ 22 → length t.counts ≡ 22 → Additive (sums_of t)
 additive_sums t a b = additive (by_row 1 t.grams) (by_row 1 t.counts) (rows_of 1 t.grams (omega arith) (omega arith)) (rows_of 1 t.counts (omega arith) (omega arith))

@@ -14,7 +14,7 @@ use Rattle.booking.specs.Rows.{subtracted}
 use Rattle.booking.specs.Weights.{signed_grams}
 use Rattle.booking.proofs.Kept.{grams_kept, grams_near}
 use Rattle.totals.specs.Sums.{sum_in, grams_in, count_in}
-use Rattle.sheet.specs.Lines.{row_grams, row_count, sound, lines, exact_weight, exact_in}
+use Rattle.sheet.specs.Lines.{row_grams, row_count, in_range, lines, exact_weight, exact_in}
 use Rattle.sheet.specs.Rolls.{entries_of}
 use Rattle.sheet.specs.Notes.{Note, taken_of}
 
@@ -42,15 +42,15 @@ module _ (y : ℕ) (known : Map) where
   away_sum choice (e ∷ es) a = one_more (choice e.head.row) e a.0 _ _ _ (away_sum choice es a.1)
 
   -- the line of an entry whose content is kept is in range
-  sound_line : (e : Entry) → Fit e → sound (Some (booked y known e)) ≡ Some (booked y known e)
-  sound_line e k = ap (λ t. if t then Some (booked y known e) else None) (within _ _ (grams_kept y known e k))
+  line_in_range : (e : Entry) → Fit e → in_range (Some (booked y known e)) ≡ Some (booked y known e)
+  line_in_range e k = ap (λ t. if t then Some (booked y known e) else None) (within _ _ (grams_kept y known e k))
     where
       within : (a b : ℕ) → a ≤ b → nat_le a b ≡ true
       within a b l = grind arith
 
-  line_of : (o : Option Entry) → AllByRecursion Fit (option_to_list o) → option_to_list (sound (option_map (booked y known) o)) ≡ map (booked y known) (option_to_list o)
+  line_of : (o : Option Entry) → AllByRecursion Fit (option_to_list o) → option_to_list (in_range (option_map (booked y known) o)) ≡ map (booked y known) (option_to_list o)
   line_of None h = refl
-  line_of (Some e) h = ap option_to_list (sound_line e h.0)
+  line_of (Some e) h = ap option_to_list (line_in_range e h.0)
 
   -- the lines that notes put into places are those of their entries, if their content is kept
   pub lines_taken : (ns : List Note) → AllByRecursion (λ n. AllByRecursion Fit (option_to_list n.entry)) ns → lines (map (taken_of y known) ns) ≡ map (booked y known) (entries_of ns)

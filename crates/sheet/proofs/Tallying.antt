@@ -12,7 +12,7 @@ use Rattle.totals.specs.Sums.{sum_in, grams_in, count_in, by_row}
 use Rattle.totals.proofs.Adding.{whole, natural, first, part, added, nothing, sizes_added, size_most, counts_added, light_fits, light_kept}
 use Rattle.sheet.specs.declared.book.Book.{Book}
 use Rattle.sheet.specs.declared.place.Place.{Place}
-use Rattle.sheet.specs.Lines.{row_grams, row_count, sound, lines}
+use Rattle.sheet.specs.Lines.{row_grams, row_count, in_range, lines}
 use Rattle.sheet.specs.Places.{Taken, taken_by, in_use, taken}
 
 pub row_range : (row : Row) → RowRange (row_number row)
@@ -41,9 +41,9 @@ size_signed : (t : Bool) (g : ℕ) → unsigned_abs (signed_grams t g) ≡ g
 size_signed true g = omega (arith, ints)
 size_signed false g = omega (arith, ints)
 
-sound_range : (o : Option Booked) (l : Booked) → sound o ≡ Some l → l.grams ≤ 100000000000000
-sound_range None l e = grind arith
-sound_range (Some m) l e = grind arith
+grams_in_range : (o : Option Booked) (l : Booked) → in_range o ≡ Some l → l.grams ≤ 100000000000000
+grams_in_range None l e = grind arith
+grams_in_range (Some m) l e = grind arith
 
 -- a sum as the code has it
 abbrev pub sum_of : ℤ → ℤ → ℤ
@@ -51,7 +51,7 @@ sum_of a b = to_z w64 (of_z w64 a) +ℤ to_z w64 (of_z w64 b)
 
 module _ (held : List Taken) (t : Taken) (rest : List Taken) (gs : List ℤ) (ns : List ℕ) (h : Tallied held (t ∷ rest) gs ns) where
   -- a place without a line
-  pub passed : sound t.line ≡ None → Tallied held rest gs ns
+  pub passed : in_range t.line ≡ None → Tallied held rest gs ns
   passed e =
       let f : lines (t ∷ rest) ≡ lines rest = ap (λ o. option_to_list o ++ lines rest) e in
       record {
@@ -63,7 +63,7 @@ module _ (held : List Taken) (t : Taken) (rest : List Taken) (gs : List ℤ) (ns
         counts_places = h.counts_places;
       }
 
-  module _ (l : Booked) (e : sound t.line ≡ Some l) (range : RowRange l.row) (d : ℤ) (c : ℕ) where
+  module _ (l : Booked) (e : in_range t.line ≡ Some l) (range : RowRange l.row) (d : ℤ) (c : ℕ) where
     abbrev at : ℕ
     at = l.row - 1
 
@@ -94,7 +94,7 @@ module _ (held : List Taken) (t : Taken) (rest : List Taken) (gs : List ℤ) (ns
     pub tallied : Tallied held rest (set gs at (get_or gs at d +ℤ grams)) (set ns at (get_or ns at c + 1))
     tallied =
         let size = size_signed (subtracted l.row) l.grams in
-        let most = sound_range t.line l e in
+        let most = grams_in_range t.line l e in
         record {
           grams = more_grams;
           counts = more_counts;
@@ -106,7 +106,7 @@ module _ (held : List Taken) (t : Taken) (rest : List Taken) (gs : List ℤ) (ns
 
     module _ (few : length held ≤ 512) (r : ℕ) (r_is : r ≡ at) (s : ℤ) (s_is : s ≡ grams) where
       light_sum : unsigned_abs (get_or gs at d) + unsigned_abs grams ≤ most_size
-      light_sum = omega (arith, size_most gs at d (omega (arith, range, h.grams_places)), h.light, few, size_signed (subtracted l.row) l.grams, sound_range t.line l e)
+      light_sum = omega (arith, size_most gs at d (omega (arith, range, h.grams_places)), h.light, few, size_signed (subtracted l.row) l.grams, grams_in_range t.line l e)
 
       pub sum_fits : FitsSigned w64 (sum_of (get_or gs r d) s)
       sum_fits = rw (r_is, s_is) (light_fits (get_or gs at d) grams light_sum)

@@ -24,13 +24,13 @@ abbrev pub sums_of_lines : List Booked → Sums
 sums_of_lines ls = record { grams = λ choice. grams_in choice (map row_grams ls); counts = λ choice. count_in choice (map row_count ls) }
 
 -- the line of a place, if it has one whose grams are in a line's range
-abbrev pub sound : Option Booked → Option Booked
-sound None = None
-sound (Some l) = if nat_le l.grams most_grams then Some l else None
+abbrev pub in_range : Option Booked → Option Booked
+in_range None = None
+in_range (Some l) = if nat_le l.grams most_grams then Some l else None
 
 -- the lines in places
 abbrev pub lines : List Taken → List Booked
-lines held = flat_map (λ t. option_to_list (sound t.line)) held
+lines held = flat_map (λ t. option_to_list (in_range t.line)) held
 
 -- entries in a building with a life of y years, at the factors of a map
 module _ (y : ℕ) (known : Map) where

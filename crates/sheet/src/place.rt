@@ -2,7 +2,7 @@
 ghost use Rattle.std.specs.Prelude.{◌≡◌, Some, MatchBool, IfErr, option_map};
 ghost use Rattle.refusals.specs.Refusals.{Decided};
 ghost use Rattle.booking.specs.Booked.{line_numbers};
-ghost use Rattle.sheet.specs.Lines.{sound};
+ghost use Rattle.sheet.specs.Lines.{in_range};
 ghost use Rattle.sheet.specs.Notes.{entry_asked, Named, sent_entry, sent_note, taken_of};
 ghost use Rattle.sheet.specs.Places.{held_line, taken_by};
 ghost use Rattle.sheet.specs.Placing.{EqualLines, replacing};
@@ -79,7 +79,7 @@ impl Place {
 
     // Its line, if it has one in range.
     pub(crate) fn line(&self) -> Option<Line>
-        ensures { option_map line_numbers result ≡ sound (held_line self.now.held) }
+        ensures { option_map line_numbers result ≡ in_range (held_line self.now.held) }
     {
         match self.held {
             Held::Withdrawn => None,

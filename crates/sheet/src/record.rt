@@ -1,7 +1,7 @@
 // What a book keeps of a booked line.
 ghost use Rattle.std.specs.Prelude.{◌≡◌, Some, option_map};
 ghost use Rattle.booking.specs.Booked.{line_numbers};
-ghost use Rattle.sheet.specs.Lines.{sound};
+ghost use Rattle.sheet.specs.Lines.{in_range};
 ghost use Rattle.sheet.specs.Places.{record_numbers};
 
 use booking::{Line, Row};
@@ -36,7 +36,7 @@ impl From<Line> for Record {
 impl Record {
     // The line, if it is in range. What was let in always is, but a record does not say so.
     pub(crate) fn line(self) -> Option<Line>
-        ensures { option_map line_numbers result ≡ sound (Some (record_numbers self)) }
+        ensures { option_map line_numbers result ≡ in_range (Some (record_numbers self)) }
     {
         if self.grams > MOST_GRAMS {
             return None;

@@ -11,6 +11,6 @@ pub const ROWS: usize = 22;
 pub struct Totals {
     pub grams: [i64; ROWS],
     pub counts: [u16; ROWS],
-    ghost light: { sum_by unsigned_abs grams ≤ most_size },
-    ghost few: { sum counts ≤ most_count },
+    ghost grams_within: { sum_by unsigned_abs grams ≤ most_size },
+    ghost counts_within: { sum counts ≤ most_count },
 }

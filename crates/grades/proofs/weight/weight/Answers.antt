@@ -20,6 +20,6 @@ returns c =
     c.grams.ensures.value c.grams-3.ensures.value c.grams-2.ensures.value c.grams-4.ensures.value c.grams-5.ensures.value in
     let value = sum ∙ sym is in
     let below = sum_most energy 1 c.args.totals.grams in
-    let all = c.args.totals.light in
+    let all = c.args.totals.grams_within in
     let small : WithinTotals (weight (sums_of c.args.totals)) = omega arith in
     record { value = value; within = subst WithinTotals (sym value) small }

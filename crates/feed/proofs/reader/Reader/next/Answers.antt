@@ -26,7 +26,7 @@ invariant_of-self c =
     let framed = c.in_ok-bytes.ensures.0.0 in
     let long = ap length c.in_ok-bytes.ensures.1 ∙ length_first c.left-left.result.bytes.now framed in
     let rest = ap length c.left-left.ensures.bytes ∙ length-drop self.start self.feed.now in
-    record { within = omega (arith, self.within, framed.whole); few = omega (arith, self.few, framed.least) }
+    record { start_within = omega (arith, self.start_within, framed.whole); handed_within = omega (arith, self.handed_within, framed.least) }
 
 pub returns : goal.returns
 returns c =
