@@ -1,9 +1,9 @@
 -- Which condition on an entry's content fails first. Assumes nothing.
-use Rattle.std.proofs.Common.{ℕ, [], ◌∷◌, arith}
+use Rattle.std.proofs.Common.{ℕ, [], ◌∷◌, rules}
 use Rattle.std.specs.Bool.{IsTrue}
 use Rattle.factors.specs.Maps.{Map}
 use Rattle.refusals.specs.Refusals.{Conditions, Kept, Least}
-use Rattle.refusals.proofs.Deciding.{least_on, least_here}
+use Rattle.refusals.proofs.Deciding.{least_past, least_here}
 use Rattle.booking.specs.declared.entry.Entry.{Entry}
 use Rattle.booking.specs.Booked.{Has, factor, unit_of, entry_product, content}
 use Rattle.booking.specs.Quantities.{QuantityInRange}
@@ -45,44 +45,35 @@ module _ (y : ℕ) (known : Map) (e : Entry) where
   abbrev from_span : Conditions
   from_span = (6, span_asked) ∷ from_quantity
 
-  abbrev to_row : Conditions
-  to_row = (5, row_asked) ∷ []
-
-  abbrev to_span : Conditions
-  to_span = (5, row_asked) ∷ (6, span_asked) ∷ []
-
-  abbrev to_quantity : Conditions
-  to_quantity = (5, row_asked) ∷ (6, span_asked) ∷ (7, quantity_asked) ∷ []
-
-  abbrev to_factor : Conditions
-  to_factor = (5, row_asked) ∷ (6, span_asked) ∷ (7, quantity_asked) ∷ (8, factor_asked) ∷ []
-
-  abbrev to_unit : Conditions
-  to_unit = (5, row_asked) ∷ (6, span_asked) ∷ (7, quantity_asked) ∷ (8, factor_asked) ∷ (9, unit_asked) ∷ []
-
   pub row_fails : (row_asked → ⊥) → Least (content y known e) 5
   unfolding content
-  row_fails fails = least_here 5 from_span fails (omega arith, (omega arith, (omega arith, (omega arith, (omega arith, tt)))))
+  row_fails fails = least_here 5 from_span fails (search rules)
 
   pub span_fails : row_asked → (span_asked → ⊥) → Least (content y known e) 6
   unfolding content
-  span_fails p5 fails = least_on to_row from_span 6 (p5, tt) (least_here 6 from_quantity fails (omega arith, (omega arith, (omega arith, (omega arith, tt)))))
+  span_fails p5 fails = least_past 5 6 from_span p5 (least_here 6 from_quantity fails (search rules))
 
   pub quantity_fails : row_asked → span_asked → (quantity_asked → ⊥) → Least (content y known e) 7
   unfolding content
-  quantity_fails p5 p6 fails = least_on to_span from_quantity 7 (p5, (p6, tt)) (least_here 7 from_factor fails (omega arith, (omega arith, (omega arith, tt))))
+  quantity_fails p5 p6 fails = least_past 5 7 from_span p5 (least_past 6 7 from_quantity p6 (least_here 7 from_factor fails (search rules)))
 
   pub factor_fails : row_asked → span_asked → quantity_asked → (factor_asked → ⊥) → Least (content y known e) 8
   unfolding content
-  factor_fails p5 p6 p7 fails = least_on to_quantity from_factor 8 (p5, (p6, (p7, tt))) (least_here 8 from_unit fails (omega arith, (omega arith, tt)))
+  factor_fails p5 p6 p7 fails =
+      least_past 5 8 from_span p5 (least_past 6 8 from_quantity p6 (least_past 7 8 from_factor p7 (least_here 8 from_unit fails (search rules))))
 
   pub unit_fails : row_asked → span_asked → quantity_asked → factor_asked → (unit_asked → ⊥) → Least (content y known e) 9
   unfolding content
-  unit_fails p5 p6 p7 p8 fails = least_on to_factor from_unit 9 (p5, (p6, (p7, (p8, tt)))) (least_here 9 from_product fails (omega arith, tt))
+  unit_fails p5 p6 p7 p8 fails =
+      least_past 5 9 from_span p5
+      (least_past 6 9 from_quantity p6 (least_past 7 9 from_factor p7 (least_past 8 9 from_unit p8 (least_here 9 from_product fails (search rules)))))
 
   pub product_fails : row_asked → span_asked → quantity_asked → factor_asked → unit_asked → (product_asked → ⊥) → Least (content y known e) 10
   unfolding content
-  product_fails p5 p6 p7 p8 p9 fails = least_on to_unit from_product 10 (p5, (p6, (p7, (p8, (p9, tt))))) (least_here 10 [] fails tt)
+  product_fails p5 p6 p7 p8 p9 fails =
+      least_past 5 10 from_span p5
+      (least_past 6 10 from_quantity p6
+      (least_past 7 10 from_factor p7 (least_past 8 10 from_unit p8 (least_past 9 10 from_product p9 (least_here 10 [] fails tt)))))
 
   pub passes : row_asked → span_asked → quantity_asked → factor_asked → unit_asked → product_asked → Kept (content y known e)
   unfolding content

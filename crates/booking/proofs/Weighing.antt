@@ -11,7 +11,6 @@ use Rattle.refusals.specs.Refusals.{refusal_number, Kept, Least}
 use Rattle.booking.specs.declared.line.Line.{Line}
 use Rattle.booking.specs.declared.entry.Entry.{Entry}
 use Rattle.booking.specs.declared.reckoning.Reckoning.{Reckoning}
-use Rattle.booking.specs.declared.reckoning.Reckoning.TheVariants.{Once, Hauled, Yearly, Renewed, Refilled}
 use Rattle.booking.specs.Booked.{Has, amount_of, unit_of, factor, entry_product, entry_divisor, exact_grams, content, Books}
 use Rattle.booking.specs.Quantities.{QuantityInRange, booked_thousandths}
 use Rattle.booking.specs.Reckonings.{SpanFits, multiplier, divisor, unit_fits}
@@ -21,11 +20,7 @@ use Rattle.booking.proofs.Contents.{span_fails, quantity_fails, factor_fails, un
 
 -- a divisor is no more than the longest span
 pub divisor_range : (k : Reckoning) (s : ℕ) → SpanFits k s → (0 < divisor k s) × (divisor k s ≤ 100)
-divisor_range Once s fits = (omega arith, omega arith)
-divisor_range Hauled s fits = (omega arith, omega arith)
-divisor_range Yearly s fits = (omega arith, omega arith)
-divisor_range Renewed s fits = (omega arith, omega arith)
-divisor_range Refilled s fits = (omega arith, omega arith)
+divisor_range k s fits = grind arith
 
 -- the grams of a weight in range
 pub grams_range : (w d g : ℕ) → ProductRange w → 0 < d → g ≡ rounded w (exact_divisor d) → GramsRange g

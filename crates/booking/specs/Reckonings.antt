@@ -22,16 +22,11 @@ multiplier Refilled y s = y
 
 -- and what it is divided by
 abbrev pub divisor : Reckoning → ℕ → ℕ
-divisor Once s = 1
-divisor Hauled s = 1
-divisor Yearly s = 1
-divisor Renewed s = 1
 divisor Refilled s = s
+divisor k s = 1
 
 -- tonne-kilometres (5) for what is hauled and for nothing else, kilograms (4) for what is refilled
 abbrev pub unit_fits : Reckoning → ℕ → Bool
-unit_fits Once u = not (u == 5)
 unit_fits Hauled u = u == 5
-unit_fits Yearly u = not (u == 5)
-unit_fits Renewed u = not (u == 5)
 unit_fits Refilled u = u == 4
+unit_fits k u = not (u == 5)

@@ -1,2 +1,1 @@
 mod Listed
-mod Warming

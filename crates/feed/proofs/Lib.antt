@@ -1,4 +1,3 @@
-pub mod Bytes
 pub mod Framing
 pub mod Reading
 pub mod Running

@@ -1,10 +1,10 @@
 -- Reading the first note of bytes, step by step. Assumes nothing.
-use Rattle.std.proofs.Common.{◌≡◌, ℕ, ◌≤◌, List, ◌++◌, length, Err, Result, sym, ap, subst, arith, lit<, lit≤}
+use Rattle.std.proofs.Common.{◌≡◌, ℕ, ◌≤◌, List, ◌++◌, length, Result, sym, ap, subst, arith}
 use Rattle.refusals.specs.declared.refusal.Refusal.{Refusal}
 use Rattle.feed.specs.Frames.{Framed, first_note}
 use Rattle.feed.specs.Readings.{framing, shape, ranges, Reads}
-use Rattle.refusals.specs.Refusals.{refusal_number, Conditions, Kept, Least, Decided}
-use Rattle.refusals.proofs.Deciding.{least_stop, decided_on, decided_off}
+use Rattle.refusals.specs.Refusals.{Conditions, Decided}
+use Rattle.refusals.proofs.Deciding.{decided_on, decided_off}
 use Rattle.feed.proofs.Framing.{one_first, framed_one, first_one}
 
 -- what first_note gives has a length and a kind
@@ -12,23 +12,6 @@ pub headed : (bs note : List ℕ) → Framed bs → note ≡ first_note bs → 4
 headed bs note framed is = omega (arith, (one_first bs framed).head, ap length is)
 
 module _ {X : Type 0} (Wanted : ℕ → Type 0) (Value : List ℕ → X → Type 0) (bs : List ℕ) where
-  -- a note that has not the form of a wanted kind is refused, whatever its fields are
-  pub reads_misshapen : (f : Refusal) → Least (framing bs ++ shape Wanted (first_note bs)) (refusal_number f) → Reads Wanted Value bs (Err f)
-  reads_misshapen f least =
-      least_stop (framing bs ++ shape Wanted (first_note bs)) (ranges (first_note bs)) 3 _ (lit≤ tt, (lit≤ tt, (lit≤ tt, tt))) (lit< tt, tt) least
-
-  -- a note that has the form of a wanted kind is judged by its fields
-  pub reads_shaped : (note : List ℕ) (r : Result X Refusal) → Kept (framing bs ++ shape Wanted (first_note bs)) → note ≡ first_note bs → Decided (ranges note) (Value note) r → Reads Wanted Value bs r
-  reads_shaped note r kept is d =
-      decided_on (Value (first_note bs)) (framing bs ++ shape Wanted (first_note bs)) (ranges (first_note bs)) kept r
-      (subst (λ n. Decided (ranges n) (Value n) r) is d)
-
-  -- a framed note is judged by its form and its fields
-  pub reads_framed : (note : List ℕ) (r : Result X Refusal) → Framed bs → note ≡ first_note bs → Decided (shape Wanted note ++ ranges note) (Value note) r → Reads Wanted Value bs r
-  reads_framed note r framed is d =
-      decided_on (Value (first_note bs)) (framing bs) (shape Wanted (first_note bs) ++ ranges (first_note bs)) (framed, tt) r
-      (subst (λ n. Decided (shape Wanted n ++ ranges n) (Value n) r) is d)
-
   -- a note by itself is read as it is in front of other bytes
   pub reads_alone : (r : Result X Refusal) → Reads Wanted Value bs r → Framed bs → Reads Wanted Value (first_note bs) r
   reads_alone r reads framed =

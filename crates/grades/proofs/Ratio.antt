@@ -10,14 +10,7 @@ use denote.Enum.Bare.{sameb}
 use lib.Signed.{le_z}
 
 pub no_home : (t : BuildingType) → sameb the_type t Residential ≡ false → type_number t ≡ 1 → ⊥
-no_home Residential h e = cc
-no_home SmallOffice h e = omega arith
-no_home LargeOffice h e = omega arith
-no_home SmallHotel h e = omega arith
-no_home LargeHotel h e = omega arith
-no_home Shop h e = omega arith
-no_home Hospital h e = omega arith
-no_home School h e = omega arith
+no_home t h e = grind arith
 
 -- neither side wraps
 pub compared : (w k l r : ℤ) (p g : ℕ) → k ≡ pos 100 → l ≡ pos (100 - p) → r ≡ pos g → WithinTotals w → g ≤ 10000000000000000 → le_z (to_z w64 (of_z w64 (to_z w64 (of_z w64 k) *ℤ to_z w64 (of_z w64 w)))) (to_z w64 (of_z w64 (to_z w64 (of_z w64 l) *ℤ to_z w64 (of_z w64 r)))) ≡ le_z (pos 100 *ℤ w) (pos ((100 - p) * g))

@@ -72,6 +72,10 @@ least_stop cs ds k n up below d =
 pub least_here : {P : Type 0} (n : ℕ) (cs : Conditions) → (P → ⊥) → BelowAll n cs → Least ((n, P) ∷ cs) n
 least_here n cs fails below = (inl (refl, fails), λ m l b. ⊎_elim (λ e. omega (arith, e.0)) (unbroken_below n cs below m l) b)
 
+-- the first condition holds, and n is the smallest number of those after it that fail
+pub least_past : {P : Type 0} (m n : ℕ) (cs : Conditions) → P → Least cs n → Least ((m, P) ∷ cs) n
+least_past {P} m n cs holds least = least_on ((m, P) ∷ []) cs n (holds, tt) least
+
 -- no two numbers are the smallest
 pub least_only : (cs : Conditions) (m n : ℕ) → Least cs m → Least cs n → m ≡ n
 least_only cs m n a b =

@@ -24,22 +24,8 @@ refusal_number FeedTooLong = 25
 
 -- the codes that a refusal names: a lack names the one that was asked for and the one that is lacking
 abbrev pub refusal_codes : Refusal → List ℕ
-refusal_codes Unframed = []
-refusal_codes UnwantedKind = []
-refusal_codes WrongLength = []
-refusal_codes OutOfRange = []
-refusal_codes UnknownRow = []
-refusal_codes UnfitSpan = []
-refusal_codes UnfitQuantity = []
 refusal_codes (FactorLacking l) = l.asked ∷ l.lacking ∷ []
-refusal_codes UnfitUnit = []
-refusal_codes TooLarge = []
-refusal_codes TooFewPlaces = []
-refusal_codes Superseded = []
-refusal_codes Contradicted = []
-refusal_codes BookFull = []
-refusal_codes TooManyRows = []
-refusal_codes FeedTooLong = []
+refusal_codes f = []
 
 -- what a call asks for, each condition with the number of the refusal where it fails
 abbrev pub Conditions : Type 1

@@ -1,6 +1,6 @@
 -- The sends of an account, one after the other. Assumes nothing.
 use Rattle.std.proofs.Common.{◌≡◌, ℕ, List, [], ◌∷◌, ◌++◌, ◌+◌, ◌<◌, ◌≤◌, length, get_or, take, map, reverse, Ok, Err, Result, IfOk, sym, refl, ap, ◌∙◌, subst}
-use Rattle.std.proofs.lemmas.List.{reverse-append, map-append, take_more, take_all}
+use Rattle.std.proofs.lemmas.List.{map_more, reverse-append, map-append, take_more, take_all}
 use Rattle.refusals.specs.declared.refusal.Refusal.{Refusal}
 use Rattle.factors.specs.Maps.{Map}
 use Rattle.feed.specs.declared.building.BuildingNumbers.{BuildingNumbers}
@@ -42,7 +42,7 @@ module _ (b : BuildingNumbers) (known : Map) where
 
 -- one item more of a list, and then all
 pub one_more : {X : Type 0} (f : X → List ℕ) (xs : List X) (i : ℕ) (d : X) → i < length xs → map f (take i xs) ++ f (get_or xs i d) ∷ [] ≡ map f (take (i + 1) xs)
-one_more f xs i d less = sym (ap (map f) (take_more xs i d less) ∙ map-append f (take i xs) (get_or xs i d ∷ []))
+one_more f xs i d less = sym (map_more f xs i d less)
 
 pub all_of : {X : Type 0} (f : X → List ℕ) (xs : List X) (i : ℕ) → length xs ≤ i → map f (take i xs) ≡ map f xs
 all_of f xs i end = ap (map f) (take_all i xs end)

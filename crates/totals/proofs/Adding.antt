@@ -3,6 +3,7 @@ use Rattle.std.proofs.Common.{◌≡◌, ℕ, zero, suc, ◌+◌, ◌<◌, ◌�
 use Rattle.std.proofs.lemmas.Bool.Decides.{nat_tests}
 use Rattle.std.proofs.lemmas.Int.{ints, to_z-of_z, fits_signed_from_abs}
 use Rattle.std.proofs.lemmas.List.{drop_more, drop_all}
+use Rattle.std.proofs.lemmas.List.Folds.{sum_by-replicate}
 use Rattle.std.proofs.lemmas.List.Sums.{sum_by-set, sum_by-cons, get_or-le-sum_by}
 use Rattle.totals.specs.Sizes.{most_size}
 use Rattle.totals.specs.Sums.{sum_in, grams_in, count_in, by_row, Sums}
@@ -139,9 +140,6 @@ size_most xs at d h = get_or-le-sum_by unsigned_abs xs at d h
 pub counts_added : (xs : List ℕ) (at d g : ℕ) → at < length xs → sum (set xs at (get_or xs at d + g)) ≡ sum xs + g
 counts_added xs at d g h = omega (arith, sum_by-set (λ x. x) xs at (get_or xs at d + g) d h)
 
-pub count_most : (xs : List ℕ) (at d : ℕ) → at < length xs → get_or xs at d ≤ sum xs
-count_most xs at d h = get_or-le-sum_by (λ x. x) xs at d h
-
 -- what any choice of rows comes to is no larger than all sizes together
 pub sum_most : (choice : ℕ → Bool) (k : ℕ) (xs : List ℤ) → unsigned_abs (grams_in choice (by_row k xs)) ≤ sum_by unsigned_abs xs
 unfolding sum_in by_row
@@ -164,9 +162,7 @@ counts_most choice k (x ∷ xs) =
 
 -- no sizes yet
 pub no_sizes : (n : ℕ) → sum_by unsigned_abs (replicate n (pos 0)) ≡ 0
-no_sizes zero = refl
-no_sizes (suc n) = omega (arith, sum_by-cons unsigned_abs (pos 0) (replicate n (pos 0)), no_sizes n)
+no_sizes n = sum_by-replicate unsigned_abs n (pos 0) ∙ omega arith
 
 pub no_counts : (n : ℕ) → sum (replicate n 0) ≡ 0
-no_counts zero = refl
-no_counts (suc n) = omega (arith, sum_by-cons (λ x. x) 0 (replicate n 0), no_counts n)
+no_counts n = sum_by-replicate (λ x. x) n 0 ∙ omega arith
