@@ -3,7 +3,8 @@ use Rattle.std.specs.Prelude.{◌≡◌, ℕ, IsTrue, [], ◌∷◌, pos, IfErr,
 use Rattle.exact.specs.Rounding.{Fraction, over, rounded}
 use Rattle.refusals.specs.declared.lacking.Lacking.{Lacking}
 use Rattle.refusals.specs.declared.refusal.Refusal.{Refusal}
-use Rattle.refusals.specs.Refusals.{refusal_number, refusal_codes, Conditions, Decided}
+use Rattle.refusals.specs.declared.refusal.Refusal.TheVariants.{UnknownRow, UnfitSpan, UnfitQuantity, UnfitUnit, TooLarge}
+use Rattle.refusals.specs.Refusals.{refusal_number, lack_number, refusal_codes, Conditions, Decided}
 use Rattle.factors.specs.Maps.{Answer, Map, has, lacks}
 use Rattle.codes.specs.Codes.{unit_number}
 use Rattle.feed.specs.declared.factor.Factor.{Factor}
@@ -34,7 +35,7 @@ Told answer c (Err l) = (l.asked ≡ c) × (answer ≡ lacks l.lacking)
 
 -- a refusal for want of the factor of the code c names that code, and the one that is lacking
 abbrev pub Names : ℕ → Answer → Refusal → Type 0
-Names c answer f = refusal_number f ≡ 8 → (l : ℕ) × (answer ≡ lacks l) × (refusal_codes f ≡ c ∷ l ∷ [])
+Names c answer f = refusal_number f ≡ lack_number → (l : ℕ) × (answer ≡ lacks l) × (refusal_codes f ≡ c ∷ l ∷ [])
 
 -- a line by its numbers
 pub record Booked : Type 0 where
@@ -62,12 +63,12 @@ module _ (y : ℕ) (known : Map) (e : Entry) where
   -- what is asked of its content
   unfoldable pub content : Conditions
   content =
-      (5, RowRange e.head.row)
-      ∷ (6, SpanFits (reckoning e.head.row) e.head.span)
-      ∷ (7, QuantityInRange e.quantity)
-      ∷ (8, Has factor)
-      ∷ (9, IsTrue (unit_fits (reckoning e.head.row) (unit_of factor)))
-      ∷ (10, ProductRange entry_product)
+      (refusal_number UnknownRow, RowRange e.head.row)
+      ∷ (refusal_number UnfitSpan, SpanFits (reckoning e.head.row) e.head.span)
+      ∷ (refusal_number UnfitQuantity, QuantityInRange e.quantity)
+      ∷ (lack_number, Has factor)
+      ∷ (refusal_number UnfitUnit, IsTrue (unit_fits (reckoning e.head.row) (unit_of factor)))
+      ∷ (refusal_number TooLarge, ProductRange entry_product)
       ∷ []
 
   -- its exact weight in grams, of its booked thousandths

@@ -8,10 +8,17 @@ use Rattle.feed.specs.declared.entry.Withdrawal.{Withdrawal}
 use Rattle.feed.specs.Fields.{field}
 use Rattle.feed.specs.Frames.{note_kind}
 
+-- of an entry and of a withdrawal
+abbrev pub note_number : List ℕ → ℕ
+note_number note = field note 4 4
+
+abbrev pub note_revision : List ℕ → ℕ
+note_revision note = field note 8 4
+
 abbrev pub entry_head : List ℕ → EntryHead
 entry_head note = record {
-  number = field note 4 4;
-  revision = field note 8 4;
+  number = note_number note;
+  revision = note_revision note;
   row = field note 12 2;
   span = field note 14 2;
   code = field note 16 4;
@@ -34,4 +41,4 @@ entry_kind (Counted n) = 3
 entry_kind (Measured b) = 4
 
 abbrev pub withdrawal : List ℕ → Withdrawal
-withdrawal note = record { number = field note 4 4; revision = field note 8 4 }
+withdrawal note = record { number = note_number note; revision = note_revision note }

@@ -1,19 +1,20 @@
 -- Reading the first note of bytes: why it is refused, and what it says. Assumes nothing.
 use Rattle.std.specs.Prelude.{◌≡◌, ℕ, List, [], ◌∷◌, ◌++◌, length, Result}
 use Rattle.refusals.specs.declared.refusal.Refusal.{Refusal}
+use Rattle.refusals.specs.declared.refusal.Refusal.TheVariants.{Unframed, UnwantedKind, WrongLength, OutOfRange}
 use Rattle.feed.specs.Buildings.{building_numbers, BuildingInRange}
 use Rattle.feed.specs.Factors.{factor_row, FactorInRange}
 use Rattle.codes.specs.Codes.{note_length}
 use Rattle.feed.specs.Frames.{Framed, first_note, note_kind}
-use Rattle.refusals.specs.Refusals.{Conditions, Decided}
+use Rattle.refusals.specs.Refusals.{refusal_number, Conditions, Decided}
 
 -- bytes have a first note
 abbrev pub framing : List ℕ → Conditions
-framing bs = (1, Framed bs) ∷ []
+framing bs = (refusal_number Unframed, Framed bs) ∷ []
 
 -- a note has the form of a kind that is wanted
 abbrev pub shape : (ℕ → Type 0) → List ℕ → Conditions
-shape Wanted note = (2, Wanted (note_kind note)) ∷ (3, length note ≡ note_length (note_kind note)) ∷ []
+shape Wanted note = (refusal_number UnwantedKind, Wanted (note_kind note)) ∷ (refusal_number WrongLength, length note ≡ note_length (note_kind note)) ∷ []
 
 -- a building and a factor row have their numbers in range; of the other kinds nothing is asked here
 pub record InRange (note : List ℕ) : Type 0 where
@@ -21,7 +22,7 @@ pub record InRange (note : List ℕ) : Type 0 where
   pub factor : note_kind note ≡ 2 → FactorInRange (factor_row note)
 
 abbrev pub ranges : List ℕ → Conditions
-ranges note = (4, InRange note) ∷ []
+ranges note = (refusal_number OutOfRange, InRange note) ∷ []
 
 -- what is asked of bytes from which a note is read; Wanted holds of the kinds that are read here
 abbrev pub readable : (ℕ → Type 0) → List ℕ → Conditions

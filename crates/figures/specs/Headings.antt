@@ -1,7 +1,7 @@
 -- What headings of given grams print. Assumes nothing.
 use Rattle.std.specs.Prelude.{◌≡◌, ◌-◌, List, ◌++◌, length, map, replicate, ℤ, pos}
-use Rattle.totals.specs.Sums.{Sums, grams_in, count_in, by_row}
-use Rattle.pages.specs.Cuts.{by_row as each_row}
+use Rattle.totals.specs.Sums.{Sums, grams_in, count_in, numbered}
+use Rattle.pages.specs.Cuts.{by_row}
 use Rattle.pages.specs.Pages.{page_figures}
 
 -- values of the first rows, and the same one of all other rows
@@ -11,10 +11,10 @@ in_rows rest xs = xs ++ replicate (22 - length xs) rest
 -- one entry in each of the first rows, of so many grams
 abbrev pub one_in_each_row : List ℤ → Sums
 one_in_each_row grams = record {
-  grams = λ choice. grams_in choice (by_row 1 (in_rows (pos 0) grams));
-  counts = λ choice. count_in choice (by_row 1 (in_rows 0 (map (λ g. 1) grams)));
+  grams = λ choice. grams_in choice (numbered 1 (in_rows (pos 0) grams));
+  counts = λ choice. count_in choice (numbered 1 (in_rows 0 (map (λ g. 1) grams)));
 }
 
 -- a page on which each row is a heading prints so many kilograms for so many grams, and nothing for the rows after these
 abbrev pub Prints : (grams kilograms : List ℤ) → Type 0
-Prints grams kilograms = map (λ f. f.kilograms) (page_figures each_row (one_in_each_row grams)) ≡ in_rows (pos 0) kilograms
+Prints grams kilograms = map (λ f. f.kilograms) (page_figures by_row (one_in_each_row grams)) ≡ in_rows (pos 0) kilograms

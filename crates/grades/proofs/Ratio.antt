@@ -3,7 +3,7 @@ use Rattle.std.proofs.Common.{◌≡◌, ℕ, ◌-◌, ◌*◌, ◌≤◌, false
 use Rattle.std.proofs.lemmas.Int.{to_z-of_z, fits_signed_from_abs, fits_signed_mul}
 use Rattle.codes.specs.Codes.{type_number}
 use Rattle.codes.specs.declared.types.BuildingType.{BuildingType}
-use Rattle.codes.specs.declared.types.BuildingType.TheVariants.{Residential, SmallOffice, LargeOffice, SmallHotel, LargeHotel, Shop, Hospital, School}
+use Rattle.codes.specs.declared.types.BuildingType.TheVariants.{Residential}
 use Rattle.codes.specs.contracts.types.BuildingType.{the_type}
 use Rattle.totals.specs.Sizes.{most_size, WithinTotals}
 use denote.Enum.Bare.{sameb}

@@ -1,5 +1,5 @@
 // The limits of the two grades, and which of them a building has.
-ghost use Rattle.std.specs.Prelude.{◌≡◌, Bool, map};
+ghost use Rattle.std.specs.Prelude.{◌≡◌, map};
 ghost use Rattle.feed.specs.Buildings.{numbers_of};
 ghost use Rattle.grades.specs.Limits.{is_for, limit, low_carbon_limits, near_zero_limits};
 ghost use Rattle.grades.specs.Rows.{row_numbers};

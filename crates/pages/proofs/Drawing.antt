@@ -5,7 +5,7 @@ use Rattle.std.proofs.lemmas.Int.{ints, to_z-of_z, fits_signed_from_abs}
 use Rattle.std.proofs.lemmas.List.{drop_more, set_at}
 use Rattle.std.proofs.lemmas.List.FromFn.{map-range_with_len_more, length-map-range_with_len}
 use Rattle.totals.specs.Sizes.{most_size, most_count}
-use Rattle.totals.specs.Sums.{by_row, sums_of}
+use Rattle.totals.specs.Sums.{numbered, sums_of}
 use Rattle.totals.specs.declared.totals.Totals.{Totals}
 use Rattle.totals.proofs.Adding.{whole, natural, one_alone, sum_most, counts_most}
 use Rattle.pages.specs.declared.figure.Figure.{Figure}
@@ -41,7 +41,7 @@ module _ (cut : Assignment) (t : Totals) where
   few_counts choice = omega (arith, counts_most (λ row. choice (cut.heading row)) 1 t.counts, t.counts_within)
 
 pub additive_sums : (t : Totals) → length t.grams ≡ 22 → length t.counts ≡ 22 → Additive (sums_of t)
-additive_sums t a b = additive (by_row 1 t.grams) (by_row 1 t.counts) (rows_of 1 t.grams (omega arith) (omega arith)) (rows_of 1 t.counts (omega arith) (omega arith))
+additive_sums t a b = additive (numbered 1 t.grams) (numbered 1 t.counts) (rows_of 1 t.grams (omega arith) (omega arith)) (rows_of 1 t.counts (omega arith) (omega arith))
 
 -- totals by row, and the same under the headings
 pub record Headed (cut : Assignment) (t u : Totals) : Type 0 where

@@ -11,33 +11,33 @@ use Rattle.codes.specs.Ranges.{Within}
 use Rattle.pages.specs.Cuts.{Assignment, IsCut}
 use Rattle.pages.specs.Pages.{under}
 use Rattle.totals.specs.Sizes.{most_size}
-use Rattle.totals.specs.Sums.{sum_in, by_row}
+use Rattle.totals.specs.Sums.{sum_in, numbered}
 use Rattle.totals.proofs.Adding.{Adds, whole, natural, part, added, one_more, nothing, no_more, sums_in, size_most, light_fits, light_kept, sizes_added, counts_added, no_sizes, no_counts}
 
 -- what stands under the headings, and the rows from place i on, are all that the rows come to
 abbrev pub Moved : {X : Type 0} → X → (X → X → X) → (ℕ → ℕ) → List X → List X → ℕ → Type 0
 Moved none plus heading xs under i =
-    (choice : ℕ → Bool) → plus (sum_in none plus choice (by_row 1 under)) (sum_in none plus (λ row. choice (heading row)) (by_row (i + 1) (drop i xs))) ≡ sum_in none plus (λ row. choice (heading row)) (by_row 1 xs)
+    (choice : ℕ → Bool) → plus (sum_in none plus choice (numbered 1 under)) (sum_in none plus (λ row. choice (heading row)) (numbered (i + 1) (drop i xs))) ≡ sum_in none plus (λ row. choice (heading row)) (numbered 1 xs)
 
 module _ {X : Type 0} (none : X) (plus : X → X → X) (laws : Adds none plus) (heading : ℕ → ℕ) (xs : List X) where
   moved_none : (n : ℕ) → Moved none plus heading xs (replicate n none) 0
-  moved_none n choice = ap (λ z. plus z (sum_in none plus (λ row. choice (heading row)) (by_row 1 xs))) (nothing none plus laws choice 1 n) ∙ laws.with_none _
+  moved_none n choice = ap (λ z. plus z (sum_in none plus (λ row. choice (heading row)) (numbered 1 xs))) (nothing none plus laws choice 1 n) ∙ laws.with_none _
 
   moved_more : (under : List X) (i h : ℕ) (d : X) → i < length xs → Moved none plus heading xs under i → h ≡ heading (i + 1) → 1 ≤ h → h - 1 < length under → Moved none plus heading xs (set under (h - 1) (plus (get_or under (h - 1) d) (get_or xs i d))) (i + 1)
   moved_more under i h d l m e least most choice =
       let chosen = λ (row : ℕ). choice (heading row) in
       let x = get_or xs i d in
-      let s = sum_in none plus choice (by_row 1 under) in
-      let rest = sum_in none plus chosen (by_row (i + 1 + 1) (drop (i + 1) xs)) in
+      let s = sum_in none plus choice (numbered 1 under) in
+      let rest = sum_in none plus chosen (numbered (i + 1 + 1) (drop (i + 1) xs)) in
       let place : 1 + (h - 1) ≡ heading (i + 1) = (let f : 1 + (h - 1) ≡ h = omega arith in f ∙ e) in
       ap (λ z. plus z rest) (added none plus laws choice 1 under (h - 1) d x most ∙ ap (λ row. plus s (part none choice row x)) place)
       ∙ laws.apart s (part none choice (heading (i + 1)) x) rest
       ∙ ap (plus s) (sym (one_more none plus laws chosen (i + 1) xs i d l))
       ∙ m choice
 
-  moved_all : (under : List X) (i : ℕ) → length xs ≤ i → Moved none plus heading xs under i → (choice : ℕ → Bool) → sum_in none plus choice (by_row 1 under) ≡ sum_in none plus (λ row. choice (heading row)) (by_row 1 xs)
+  moved_all : (under : List X) (i : ℕ) → length xs ≤ i → Moved none plus heading xs under i → (choice : ℕ → Bool) → sum_in none plus choice (numbered 1 under) ≡ sum_in none plus (λ row. choice (heading row)) (numbered 1 xs)
   moved_all under i l m choice =
-      let s = sum_in none plus choice (by_row 1 under) in
+      let s = sum_in none plus choice (numbered 1 under) in
       sym (laws.order s none ∙ laws.with_none s)
       ∙ ap (plus s) (sym (no_more none plus laws (λ row. choice (heading row)) (i + 1) xs i l))
       ∙ m choice
@@ -106,7 +106,7 @@ module _ (cut : Assignment) (grams : List ℤ) (counts : List ℕ) where
         counts_places = length-set ns (h - 1) _ ∙ sofar.counts_places;
       })
 
-pub all_rows : (cut : Assignment) (grams gs : List ℤ) (counts ns : List ℕ) (i : ℕ) → length grams ≡ 22 → length counts ≡ 22 → 22 ≤ i → Sofar cut grams counts gs ns i → sums_in (by_row 1 gs) (by_row 1 ns) ≡ under cut (sums_in (by_row 1 grams) (by_row 1 counts))
+pub all_rows : (cut : Assignment) (grams gs : List ℤ) (counts ns : List ℕ) (i : ℕ) → length grams ≡ 22 → length counts ≡ 22 → 22 ≤ i → Sofar cut grams counts gs ns i → sums_in (numbered 1 gs) (numbered 1 ns) ≡ under cut (sums_in (numbered 1 grams) (numbered 1 counts))
 all_rows cut grams gs counts ns i fg fn l sofar =
     let p = moved_all (pos 0) ◌+ℤ◌ whole cut.heading grams gs i (omega arith) sofar.grams_moved in
     let q = moved_all 0 ◌+◌ natural cut.heading counts ns i (omega arith) sofar.counts_moved in

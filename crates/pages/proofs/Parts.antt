@@ -5,7 +5,7 @@ use Rattle.std.proofs.lemmas.Bool.Decides.{nat_tests}
 use Rattle.std.proofs.lemmas.Int.{ints}
 use Rattle.std.proofs.lemmas.List.Elements.{All-nil, All-cons, All-head, All-tail}
 use Rattle.booking.specs.Rows.{RowRange}
-use Rattle.totals.specs.Sums.{sum_in, by_row, Sums}
+use Rattle.totals.specs.Sums.{sum_in, numbered, Sums}
 use Rattle.totals.proofs.Adding.{Adds, whole, natural, part, first, sums_in}
 use Rattle.pages.specs.Cuts.{Assignment, IsCut}
 use Rattle.pages.specs.Pages.{under, running, run}
@@ -58,10 +58,10 @@ additive ws ns rows rows' = record {
   counts = λ a b c parts. together 0 ◌+◌ natural a b c ns rows' parts;
 }
 
-pub rows_of : {X : Type 0} (k : ℕ) (xs : List X) → 1 ≤ k → k + length xs ≤ 23 → All (λ v. RowRange v.0) (by_row k xs)
-unfolding by_row
+pub rows_of : {X : Type 0} (k : ℕ) (xs : List X) → 1 ≤ k → k + length xs ≤ 23 → All (λ v. RowRange v.0) (numbered k xs)
+unfolding numbered
 rows_of {X} k [] l m = All-nil {X = ℕ × X} (λ v. RowRange v.0)
-rows_of {X} k (x ∷ xs) l m = All-cons {X = ℕ × X} (λ v. RowRange v.0) (k, x) (by_row (k + 1) xs) (omega arith, omega arith) (rows_of (k + 1) xs (omega arith) (omega arith))
+rows_of {X} k (x ∷ xs) l m = All-cons {X = ℕ × X} (λ v. RowRange v.0) (k, x) (numbered (k + 1) xs) (omega arith, omega arith) (rows_of (k + 1) xs (omega arith) (omega arith))
 
 -- the headings up to j are those up to i and those after it
 up_to : (h i j : ℕ) → i ≤ j → Parts (nat_le h i) (run i j h) (nat_le h j)

@@ -3,7 +3,8 @@ use Rattle.std.specs.Prelude.{◌≡◌, ℕ, ◌-◌, ◌≤◌, Bool, true, �
 use Rattle.std.specs.List.{range_with_len}
 use Rattle.exact.specs.Rounding.{over, nearest}
 use Rattle.refusals.specs.declared.refusal.Refusal.{Refusal}
-use Rattle.refusals.specs.Refusals.{Conditions, Decided}
+use Rattle.refusals.specs.declared.refusal.Refusal.TheVariants.{TooFewPlaces}
+use Rattle.refusals.specs.Refusals.{refusal_number, Conditions, Decided}
 use Rattle.totals.specs.Sums.{Sums}
 use Rattle.pages.specs.declared.figure.Figure.{Figure}
 use Rattle.pages.specs.Cuts.{Assignment}
@@ -37,7 +38,7 @@ total_figure sums = record { kilograms = kilograms (sums.grams (λ row. true)); 
 
 -- a page needs a place for each heading
 abbrev pub room : Assignment → List Figure → Conditions
-room cut before = (11, cut.size ≤ length before) ∷ []
+room cut before = (refusal_number TooFewPlaces, cut.size ≤ length before) ∷ []
 
 -- what is left in the places: a figure for each heading and the other places untouched, or all of them untouched
 abbrev pub Leaves : Assignment → Sums → List Figure → Result Figure Refusal → List Figure → Type 0

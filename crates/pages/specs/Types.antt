@@ -3,11 +3,11 @@ use Rattle.std.specs.Prelude.{ℕ, if◌then◌else◌, ◌||◌, ◌==◌}
 use Rattle.pages.specs.declared.by_type.EmissionType.{EmissionType}
 use Rattle.pages.specs.declared.by_type.EmissionType.TheVariants.{Direct, Indirect, Embodied, Sink}
 
-abbrev pub type_number : EmissionType → ℕ
-type_number Direct = 1
-type_number Indirect = 2
-type_number Embodied = 3
-type_number Sink = 4
+abbrev pub emission_number : EmissionType → ℕ
+emission_number Direct = 1
+emission_number Indirect = 2
+emission_number Embodied = 3
+emission_number Sink = 4
 
 -- what is burnt in the building and the refrigerant are direct; what is bought, water and renewables in use are indirect; the sink is a type of its own; all else is embodied
 abbrev pub emission_type : ℕ → ℕ

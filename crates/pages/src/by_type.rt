@@ -2,7 +2,7 @@
 ghost use Rattle.std.specs.Prelude.{◌≡◌, refl};
 ghost use Rattle.booking.specs.Rows.{row_number};
 ghost use Rattle.pages.specs.Cuts.{by_type};
-ghost use Rattle.pages.specs.Types.{type_number, emission_type};
+ghost use Rattle.pages.specs.Types.{emission_number, emission_type};
 ghost use Rattle.pages.specs.CutLaws.{by_type_lawful};
 
 use crate::cut::Cut;
@@ -37,7 +37,7 @@ impl Cut for ByType {
 }
 
 fn emission_type(row: Row) -> EmissionType
-    ensures { type_number result ≡ emission_type (row_number row) }
+    ensures { emission_number result ≡ emission_type (row_number row) }
 {
     match row {
         Row::EquipmentEnergyBurnt | Row::UserEnergyBurnt | Row::Refrigerant => EmissionType::Direct,

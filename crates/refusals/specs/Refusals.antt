@@ -3,6 +3,10 @@ use Rattle.std.specs.Prelude.{◌≡◌, ℕ, ◌<◌, ◌⊎◌, List, [], ◌�
 use Rattle.refusals.specs.declared.refusal.Refusal.{Refusal}
 use Rattle.refusals.specs.declared.refusal.Refusal.TheVariants.{Unframed, UnwantedKind, WrongLength, OutOfRange, UnknownRow, UnfitSpan, UnfitQuantity, FactorLacking, UnfitUnit, TooLarge, TooFewPlaces, Superseded, Contradicted, BookFull, TooManyRows, FeedTooLong}
 
+-- the number of a lack, whatever codes it names
+abbrev pub lack_number : ℕ
+lack_number = 8
+
 -- each refusal's number
 abbrev pub refusal_number : Refusal → ℕ
 refusal_number Unframed = 1
@@ -12,7 +16,7 @@ refusal_number OutOfRange = 4
 refusal_number UnknownRow = 5
 refusal_number UnfitSpan = 6
 refusal_number UnfitQuantity = 7
-refusal_number (FactorLacking l) = 8
+refusal_number (FactorLacking l) = lack_number
 refusal_number UnfitUnit = 9
 refusal_number TooLarge = 10
 refusal_number TooFewPlaces = 11

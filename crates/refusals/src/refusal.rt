@@ -1,6 +1,6 @@
 // Why a call is refused.
 ghost use Rattle.std.specs.Prelude.{◌≡◌, [], ◌∷◌, Some};
-ghost use Rattle.refusals.specs.Refusals.{refusal_number, refusal_codes};
+ghost use Rattle.refusals.specs.Refusals.{refusal_number, lack_number, refusal_codes};
 ghost use Rattle.refusals.specs.Texts.{refusal_said};
 
 use crate::lacking::Lacking;
@@ -71,7 +71,7 @@ impl Refusal {
 }
 
 impl From<Lacking> for Refusal {
-    ghost from_gives = { λ l r. (refusal_number r ≡ 8) × (refusal_codes r ≡ l.asked ∷ l.lacking ∷ []) };
+    ghost from_gives = { λ l r. (refusal_number r ≡ lack_number) × (refusal_codes r ≡ l.asked ∷ l.lacking ∷ []) };
 
     fn from(lacking: Lacking) -> Refusal {
         Refusal::FactorLacking(lacking)

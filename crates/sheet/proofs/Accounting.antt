@@ -1,6 +1,6 @@
 -- The sends of an account, one after the other. Assumes nothing.
 use Rattle.std.proofs.Common.{◌≡◌, ℕ, List, [], ◌∷◌, ◌++◌, ◌+◌, ◌<◌, ◌≤◌, length, get_or, take, map, reverse, Ok, Err, Result, IfOk, sym, refl, ap, ◌∙◌, subst}
-use Rattle.std.proofs.lemmas.List.{map_more, reverse-append, map-append, take_more, take_all}
+use Rattle.std.proofs.lemmas.List.{map_more, reverse-append, take_all}
 use Rattle.refusals.specs.declared.refusal.Refusal.{Refusal}
 use Rattle.factors.specs.Maps.{Map}
 use Rattle.feed.specs.declared.building.BuildingNumbers.{BuildingNumbers}

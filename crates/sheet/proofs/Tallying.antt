@@ -8,7 +8,7 @@ use Rattle.booking.specs.Booked.{Booked}
 use Rattle.booking.specs.Rows.{RowRange, row_number, subtracted}
 use Rattle.booking.specs.Weights.{signed_grams}
 use Rattle.totals.specs.Sizes.{most_size}
-use Rattle.totals.specs.Sums.{sum_in, grams_in, count_in, by_row}
+use Rattle.totals.specs.Sums.{sum_in, grams_in, count_in, numbered}
 use Rattle.totals.proofs.Adding.{whole, natural, first, part, added, nothing, sizes_added, size_most, counts_added, light_fits, light_kept}
 use Rattle.sheet.specs.declared.book.Book.{Book}
 use Rattle.sheet.specs.declared.place.Place.{Place}
@@ -20,8 +20,8 @@ row_range row = grind arith
 
 -- the rows with what they come to, when rest of the places that are held is still to be added
 pub record Tallied (held rest : List Taken) (gs : List ℤ) (ns : List ℕ) : Type 0 where
-  pub grams : (choice : ℕ → Bool) → grams_in choice (by_row 1 gs) +ℤ grams_in choice (map row_grams (lines rest)) ≡ grams_in choice (map row_grams (lines held))
-  pub counts : (choice : ℕ → Bool) → count_in choice (by_row 1 ns) + count_in choice (map row_count (lines rest)) ≡ count_in choice (map row_count (lines held))
+  pub grams : (choice : ℕ → Bool) → grams_in choice (numbered 1 gs) +ℤ grams_in choice (map row_grams (lines rest)) ≡ grams_in choice (map row_grams (lines held))
+  pub counts : (choice : ℕ → Bool) → count_in choice (numbered 1 ns) + count_in choice (map row_count (lines rest)) ≡ count_in choice (map row_count (lines held))
   pub light : sum_by unsigned_abs gs + 100000000000000 * length rest ≤ 100000000000000 * length held
   pub few : sum ns + length rest ≤ length held
   pub grams_places : length gs ≡ 22
@@ -55,8 +55,8 @@ module _ (held : List Taken) (t : Taken) (rest : List Taken) (gs : List ℤ) (ns
   passed e =
       let f : lines (t ∷ rest) ≡ lines rest = ap (λ o. option_to_list o ++ lines rest) e in
       record {
-        grams = λ choice. subst (λ ls. grams_in choice (by_row 1 gs) +ℤ grams_in choice (map row_grams ls) ≡ grams_in choice (map row_grams (lines held))) f (h.grams choice);
-        counts = λ choice. subst (λ ls. count_in choice (by_row 1 ns) + count_in choice (map row_count ls) ≡ count_in choice (map row_count (lines held))) f (h.counts choice);
+        grams = λ choice. subst (λ ls. grams_in choice (numbered 1 gs) +ℤ grams_in choice (map row_grams ls) ≡ grams_in choice (map row_grams (lines held))) f (h.grams choice);
+        counts = λ choice. subst (λ ls. count_in choice (numbered 1 ns) + count_in choice (map row_count ls) ≡ count_in choice (map row_count (lines held))) f (h.counts choice);
         light = omega (arith, h.light);
         few = omega (arith, h.few);
         grams_places = h.grams_places;
@@ -76,18 +76,18 @@ module _ (held : List Taken) (t : Taken) (rest : List Taken) (gs : List ℤ) (ns
     row_is : 1 + at ≡ l.row
     row_is = omega (arith, range.0)
 
-    more_grams : (choice : ℕ → Bool) → grams_in choice (by_row 1 (set gs at (get_or gs at d +ℤ grams))) +ℤ grams_in choice (map row_grams (lines rest)) ≡ grams_in choice (map row_grams (lines held))
+    more_grams : (choice : ℕ → Bool) → grams_in choice (numbered 1 (set gs at (get_or gs at d +ℤ grams))) +ℤ grams_in choice (map row_grams (lines rest)) ≡ grams_in choice (map row_grams (lines held))
     more_grams choice =
-        let sum = subst (λ row. grams_in choice (by_row 1 (set gs at (get_or gs at d +ℤ grams))) ≡ grams_in choice (by_row 1 gs) +ℤ part (pos 0) choice row grams) row_is (added (pos 0) ◌+ℤ◌ whole choice 1 gs at d grams (omega (arith, range, h.grams_places))) in
+        let sum = subst (λ row. grams_in choice (numbered 1 (set gs at (get_or gs at d +ℤ grams))) ≡ grams_in choice (numbered 1 gs) +ℤ part (pos 0) choice row grams) row_is (added (pos 0) ◌+ℤ◌ whole choice 1 gs at d grams (omega (arith, range, h.grams_places))) in
         let head = first (pos 0) ◌+ℤ◌ whole choice l.row grams (map row_grams (lines rest)) in
-        let all = subst (λ ls. grams_in choice (by_row 1 gs) +ℤ grams_in choice (map row_grams ls) ≡ grams_in choice (map row_grams (lines held))) more (h.grams choice) in
+        let all = subst (λ ls. grams_in choice (numbered 1 gs) +ℤ grams_in choice (map row_grams ls) ≡ grams_in choice (map row_grams (lines held))) more (h.grams choice) in
         omega (arith, ints, sum, head, all)
 
-    more_counts : (choice : ℕ → Bool) → count_in choice (by_row 1 (set ns at (get_or ns at c + 1))) + count_in choice (map row_count (lines rest)) ≡ count_in choice (map row_count (lines held))
+    more_counts : (choice : ℕ → Bool) → count_in choice (numbered 1 (set ns at (get_or ns at c + 1))) + count_in choice (map row_count (lines rest)) ≡ count_in choice (map row_count (lines held))
     more_counts choice =
-        let sum = subst (λ row. count_in choice (by_row 1 (set ns at (get_or ns at c + 1))) ≡ count_in choice (by_row 1 ns) + part 0 choice row 1) row_is (added 0 ◌+◌ natural choice 1 ns at c 1 (omega (arith, range, h.counts_places))) in
+        let sum = subst (λ row. count_in choice (numbered 1 (set ns at (get_or ns at c + 1))) ≡ count_in choice (numbered 1 ns) + part 0 choice row 1) row_is (added 0 ◌+◌ natural choice 1 ns at c 1 (omega (arith, range, h.counts_places))) in
         let head = first 0 ◌+◌ natural choice l.row 1 (map row_count (lines rest)) in
-        let all = subst (λ ls. count_in choice (by_row 1 ns) + count_in choice (map row_count ls) ≡ count_in choice (map row_count (lines held))) more (h.counts choice) in
+        let all = subst (λ ls. count_in choice (numbered 1 ns) + count_in choice (map row_count ls) ≡ count_in choice (map row_count (lines held))) more (h.counts choice) in
         omega (arith, sum, head, all)
 
     -- a place with a line
@@ -125,6 +125,6 @@ next book ps i d gs ns is less h =
     rw is (subst (λ xs. Tallied (taken book) (map taken_by xs) gs ns) (drop_more (in_use book) i d l) h)
 
 -- nothing is still to be added
-pub all_tallied : (held : List Taken) (gs : List ℤ) (ns : List ℕ) → Tallied held [] gs ns → (choice : ℕ → Bool) → (grams_in choice (by_row 1 gs) ≡ grams_in choice (map row_grams (lines held))) × (count_in choice (by_row 1 ns) ≡ count_in choice (map row_count (lines held)))
+pub all_tallied : (held : List Taken) (gs : List ℤ) (ns : List ℕ) → Tallied held [] gs ns → (choice : ℕ → Bool) → (grams_in choice (numbered 1 gs) ≡ grams_in choice (map row_grams (lines held))) × (count_in choice (numbered 1 ns) ≡ count_in choice (map row_count (lines held)))
 unfolding sum_in
 all_tallied held gs ns h choice = (omega (arith, ints, h.grams choice), omega (arith, h.counts choice))

@@ -5,7 +5,7 @@ use Rattle.refusals.specs.Refusals.{Conditions}
 use Rattle.factors.specs.Maps.{Map}
 use Rattle.feed.specs.declared.sent.Sent.{Sent}
 use Rattle.feed.specs.declared.sent.Sent.TheVariants.{Entry as SentAsEntry, Withdrawal as SentAsWithdrawal}
-use Rattle.feed.specs.Fields.{field}
+use Rattle.feed.specs.Entries.{note_number, note_revision}
 use Rattle.feed.specs.Frames.{note_kind}
 use Rattle.feed.specs.Sendings.{sent_number, sent_revision}
 use Rattle.booking.specs.declared.entry.Entry.{Entry}
@@ -21,7 +21,7 @@ pub record Note : Type 0 where
 
 -- what the bytes of a note say to a sheet
 abbrev pub note_of : List ℕ → Note
-note_of note = record { number = field note 4 4; revision = field note 8 4; entry = kind_entry (note_kind note) note }
+note_of note = record { number = note_number note; revision = note_revision note; entry = kind_entry (note_kind note) note }
 
 -- what a note that was read says to a sheet
 abbrev pub sent_entry : Sent → Option Entry

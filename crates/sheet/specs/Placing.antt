@@ -1,7 +1,9 @@
 -- Which lines a book lets in, and where they go. Assumes nothing.
 use Rattle.std.specs.Prelude.{◌≡◌, ℕ, ◌<◌, ◌⊎◌, if◌then◌else◌, List, [], ◌∷◌, ◌++◌, length, map, Some, None, Option, ◌==◌}
-use Rattle.refusals.specs.Refusals.{Conditions}
+use Rattle.refusals.specs.declared.refusal.Refusal.TheVariants.{Superseded, Contradicted, BookFull}
+use Rattle.refusals.specs.Refusals.{refusal_number, Conditions}
 use Rattle.booking.specs.Booked.{Booked}
+use Rattle.totals.specs.Sizes.{most_count}
 use Rattle.sheet.specs.Places.{Taken}
 
 -- two lines are equal: both are withdrawn, or row, span, code and booked thousandths agree
@@ -28,20 +30,20 @@ Agrees new (Some old) = new.revision ≡ old.revision → EqualLines new.line ol
 
 -- what is asked of a line, by what is held under its number
 abbrev pub replacing : Taken → Option Taken → Conditions
-replacing new old = (21, Ahead new old) ∷ (22, Agrees new old) ∷ []
+replacing new old = (refusal_number Superseded, Ahead new old) ∷ (refusal_number Contradicted, Agrees new old) ∷ []
 
 -- the number k is among these
 abbrev pub Among : ℕ → List ℕ → Type 0
 Among k [] = ⊥
 Among k (j ∷ js) = (j ≡ k) ⊎ Among k js
 
--- there is a place for the number k where these have theirs: its own, or one of the 512
+-- there is a place for the number k where these have theirs: its own, or a free one
 abbrev pub Room : List ℕ → ℕ → Type 0
-Room ks k = Among k ks ⊎ (length ks < 512)
+Room ks k = Among k ks ⊎ (length ks < most_count)
 
 -- what is asked of a line that is let into a book
 abbrev pub placing : List Taken → Taken → Conditions
-placing held new = replacing new (under new.number held) ++ ((23, Room (map (λ t. t.number) held) new.number) ∷ [])
+placing held new = replacing new (under new.number held) ++ ((refusal_number BookFull, Room (map (λ t. t.number) held) new.number) ∷ [])
 
 -- the book with the line new: it stands in the place of the line under its number, or in the next place where there is none
 abbrev pub placed : Taken → List Taken → List Taken

@@ -1,5 +1,5 @@
 // One sheet, from its opening to a page and its grade.
-ghost use Rattle.std.specs.Prelude.{◌≡◌, List, ◌∷◌, reverse, map, take, IfOk};
+ghost use Rattle.std.specs.Prelude.{reverse, map, take, IfOk};
 ghost use Rattle.feed.specs.Buildings.{numbers_of};
 ghost use Rattle.grades.specs.Grades.{grade_number};
 ghost use Rattle.sheet.specs.Accounts.{Accounted};

@@ -6,7 +6,7 @@ use Rattle.std.proofs.lemmas.List.{drop_more, drop_all}
 use Rattle.std.proofs.lemmas.List.Folds.{sum_by-replicate}
 use Rattle.std.proofs.lemmas.List.Sums.{sum_by-set, sum_by-cons, get_or-le-sum_by}
 use Rattle.totals.specs.Sizes.{most_size}
-use Rattle.totals.specs.Sums.{sum_in, grams_in, count_in, by_row, Sums}
+use Rattle.totals.specs.Sums.{sum_in, grams_in, count_in, numbered, Sums}
 
 -- what grams and counts come to, each with the number of its row
 abbrev pub sums_in : List (ℕ × ℤ) → List (ℕ × ℕ) → Sums
@@ -39,23 +39,23 @@ module _ {X : Type 0} (none : X) (plus : X → X → X) (laws : Adds none plus) 
   part_added choice row x g =
       elim (choice row) as (λ b. if b then plus x g else none ≡ plus (if b then x else none) (if b then g else none)) [ true ↦ refl | false ↦ sym (laws.with_none none) ]
 
-  pub added : (choice : ℕ → Bool) (k : ℕ) (xs : List X) (at : ℕ) (d g : X) → at < length xs → sum_in none plus choice (by_row k (set xs at (plus (get_or xs at d) g))) ≡ plus (sum_in none plus choice (by_row k xs)) (part none choice (k + at) g)
-  unfolding by_row
+  pub added : (choice : ℕ → Bool) (k : ℕ) (xs : List X) (at : ℕ) (d g : X) → at < length xs → sum_in none plus choice (numbered k (set xs at (plus (get_or xs at d) g))) ≡ plus (sum_in none plus choice (numbered k xs)) (part none choice (k + at) g)
+  unfolding numbered
   added choice k [] at d g h = absurd (omega arith)
   added choice k (x ∷ xs) zero d g h =
-      let s = sum_in none plus choice (by_row (k + 1) xs) in
+      let s = sum_in none plus choice (numbered (k + 1) xs) in
       let p = part none choice k x in
       let q = part none choice k g in
       let e : k + 0 ≡ k = omega arith in
       rw e
-      (first choice k (plus x g) (by_row (k + 1) xs)
+      (first choice k (plus x g) (numbered (k + 1) xs)
       ∙ ap (λ z. plus z s) (part_added choice k x g)
       ∙ laws.apart p q s
       ∙ ap (plus p) (laws.order q s)
       ∙ sym (laws.apart p s q)
-      ∙ ap (λ z. plus z q) (sym (first choice k x (by_row (k + 1) xs))))
+      ∙ ap (λ z. plus z q) (sym (first choice k x (numbered (k + 1) xs))))
   added choice k (x ∷ xs) (suc at) d g h =
-      let s = sum_in none plus choice (by_row (k + 1) xs) in
+      let s = sum_in none plus choice (numbered (k + 1) xs) in
       let p = part none choice k x in
       let ih = added choice (k + 1) xs at d g (omega arith) in
       let e : k + suc at ≡ k + 1 + at = omega arith in
@@ -63,16 +63,16 @@ module _ {X : Type 0} (none : X) (plus : X → X → X) (laws : Adds none plus) 
       (first choice k x _
       ∙ ap (plus p) ih
       ∙ sym (laws.apart p s _)
-      ∙ ap (λ z. plus z (part none choice (k + 1 + at) g)) (sym (first choice k x (by_row (k + 1) xs))))
+      ∙ ap (λ z. plus z (part none choice (k + 1 + at) g)) (sym (first choice k x (numbered (k + 1) xs))))
 
   -- the values from place i on are that at i and those after it
-  pub one_more : (choice : ℕ → Bool) (k : ℕ) (xs : List X) (i : ℕ) (d : X) → i < length xs → sum_in none plus choice (by_row k (drop i xs)) ≡ plus (part none choice k (get_or xs i d)) (sum_in none plus choice (by_row (k + 1) (drop (i + 1) xs)))
-  unfolding by_row
-  one_more choice k xs i d h = ap (λ ys. sum_in none plus choice (by_row k ys)) (drop_more xs i d h) ∙ first choice k (get_or xs i d) (by_row (k + 1) (drop (i + 1) xs))
+  pub one_more : (choice : ℕ → Bool) (k : ℕ) (xs : List X) (i : ℕ) (d : X) → i < length xs → sum_in none plus choice (numbered k (drop i xs)) ≡ plus (part none choice k (get_or xs i d)) (sum_in none plus choice (numbered (k + 1) (drop (i + 1) xs)))
+  unfolding numbered
+  one_more choice k xs i d h = ap (λ ys. sum_in none plus choice (numbered k ys)) (drop_more xs i d h) ∙ first choice k (get_or xs i d) (numbered (k + 1) (drop (i + 1) xs))
 
   -- nothing yet
-  pub nothing : (choice : ℕ → Bool) (k n : ℕ) → sum_in none plus choice (by_row k (replicate n none)) ≡ none
-  unfolding sum_in by_row
+  pub nothing : (choice : ℕ → Bool) (k n : ℕ) → sum_in none plus choice (numbered k (replicate n none)) ≡ none
+  unfolding sum_in numbered
   nothing choice k zero = refl
   nothing choice k (suc n) =
       first choice k none _
@@ -80,35 +80,35 @@ module _ {X : Type 0} (none : X) (plus : X → X → X) (laws : Adds none plus) 
       ∙ elim (choice k) as (λ b. plus (if b then none else none) none ≡ none) [ true ↦ laws.with_none none | false ↦ laws.with_none none ]
 
   -- nothing more
-  pub no_more : (choice : ℕ → Bool) (k : ℕ) (xs : List X) (i : ℕ) → length xs ≤ i → sum_in none plus choice (by_row k (drop i xs)) ≡ none
-  unfolding sum_in by_row
-  no_more choice k xs i h = ap (λ ys. sum_in none plus choice (by_row k ys)) (drop_all i xs h)
+  pub no_more : (choice : ℕ → Bool) (k : ℕ) (xs : List X) (i : ℕ) → length xs ≤ i → sum_in none plus choice (numbered k (drop i xs)) ≡ none
+  unfolding sum_in numbered
+  no_more choice k xs i h = ap (λ ys. sum_in none plus choice (numbered k ys)) (drop_all i xs h)
 
   -- one row alone
-  none_after : (row k : ℕ) (xs : List X) → row < k → sum_in none plus (λ r. nat_eq r row) (by_row k xs) ≡ none
-  unfolding sum_in by_row
+  none_after : (row k : ℕ) (xs : List X) → row < k → sum_in none plus (λ r. nat_eq r row) (numbered k xs) ≡ none
+  unfolding sum_in numbered
   none_after row k [] l = refl
   none_after row k (x ∷ xs) l =
       let e : nat_eq k row ≡ false = grind (arith, nat_tests) in
-      first (λ r. nat_eq r row) k x (by_row (k + 1) xs)
-      ∙ ap (λ b. plus (if b then x else none) (sum_in none plus (λ r. nat_eq r row) (by_row (k + 1) xs))) e
+      first (λ r. nat_eq r row) k x (numbered (k + 1) xs)
+      ∙ ap (λ b. plus (if b then x else none) (sum_in none plus (λ r. nat_eq r row) (numbered (k + 1) xs))) e
       ∙ laws.with_none _
       ∙ none_after row (k + 1) xs (omega arith)
 
-  pub one_alone : (row k : ℕ) (xs : List X) (i : ℕ) (d : X) → k + i ≡ row → i < length xs → sum_in none plus (λ r. nat_eq r row) (by_row k xs) ≡ get_or xs i d
-  unfolding by_row
+  pub one_alone : (row k : ℕ) (xs : List X) (i : ℕ) (d : X) → k + i ≡ row → i < length xs → sum_in none plus (λ r. nat_eq r row) (numbered k xs) ≡ get_or xs i d
+  unfolding numbered
   one_alone row k [] i d e l = absurd (omega arith)
   one_alone row k (x ∷ xs) zero d e l =
       let here : nat_eq k row ≡ true = grind (arith, nat_tests) in
-      first (λ r. nat_eq r row) k x (by_row (k + 1) xs)
-      ∙ ap (λ b. plus (if b then x else none) (sum_in none plus (λ r. nat_eq r row) (by_row (k + 1) xs))) here
+      first (λ r. nat_eq r row) k x (numbered (k + 1) xs)
+      ∙ ap (λ b. plus (if b then x else none) (sum_in none plus (λ r. nat_eq r row) (numbered (k + 1) xs))) here
       ∙ ap (plus x) (none_after row (k + 1) xs (omega arith))
       ∙ laws.order x none
       ∙ laws.with_none x
   one_alone row k (x ∷ xs) (suc i) d e l =
       let past : nat_eq k row ≡ false = grind (arith, nat_tests) in
-      first (λ r. nat_eq r row) k x (by_row (k + 1) xs)
-      ∙ ap (λ b. plus (if b then x else none) (sum_in none plus (λ r. nat_eq r row) (by_row (k + 1) xs))) past
+      first (λ r. nat_eq r row) k x (numbered (k + 1) xs)
+      ∙ ap (λ b. plus (if b then x else none) (sum_in none plus (λ r. nat_eq r row) (numbered (k + 1) xs))) past
       ∙ laws.with_none _
       ∙ one_alone row (k + 1) xs i d (omega arith) (omega arith)
 
@@ -141,22 +141,22 @@ pub counts_added : (xs : List ℕ) (at d g : ℕ) → at < length xs → sum (se
 counts_added xs at d g h = omega (arith, sum_by-set (λ x. x) xs at (get_or xs at d + g) d h)
 
 -- what any choice of rows comes to is no larger than all sizes together
-pub sum_most : (choice : ℕ → Bool) (k : ℕ) (xs : List ℤ) → unsigned_abs (grams_in choice (by_row k xs)) ≤ sum_by unsigned_abs xs
-unfolding sum_in by_row
+pub sum_most : (choice : ℕ → Bool) (k : ℕ) (xs : List ℤ) → unsigned_abs (grams_in choice (numbered k xs)) ≤ sum_by unsigned_abs xs
+unfolding sum_in numbered
 sum_most choice k [] = omega arith
 sum_most choice k (x ∷ xs) =
     let ih = sum_most choice (k + 1) xs in
-    let s = grams_in choice (by_row (k + 1) xs) in
+    let s = grams_in choice (numbered (k + 1) xs) in
     let m = size_of_sum x s in
     let e = sum_by-cons unsigned_abs x xs in
     elim (choice k) as (λ b. unsigned_abs (if b then x +ℤ s else s) ≤ sum_by unsigned_abs (x ∷ xs)) [ true ↦ omega arith | false ↦ omega arith ]
 
-pub counts_most : (choice : ℕ → Bool) (k : ℕ) (xs : List ℕ) → count_in choice (by_row k xs) ≤ sum xs
-unfolding sum_in by_row
+pub counts_most : (choice : ℕ → Bool) (k : ℕ) (xs : List ℕ) → count_in choice (numbered k xs) ≤ sum xs
+unfolding sum_in numbered
 counts_most choice k [] = omega arith
 counts_most choice k (x ∷ xs) =
     let ih = counts_most choice (k + 1) xs in
-    let s = count_in choice (by_row (k + 1) xs) in
+    let s = count_in choice (numbered (k + 1) xs) in
     let e = sum_by-cons (λ y. y) x xs in
     elim (choice k) as (λ b. (if b then x + s else s) ≤ sum (x ∷ xs)) [ true ↦ omega arith | false ↦ omega arith ]
 

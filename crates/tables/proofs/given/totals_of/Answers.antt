@@ -1,11 +1,11 @@
 use Rattle.std.proofs.Common.{◌≡◌, pos, w64, to_z, of_z, unsigned_abs, ◌^◌, ◌<◌, arith, ◌∙◌}
 use Rattle.std.proofs.lemmas.Int.{ints, to_z-of_z, fits_signed_from_abs}
-use Rattle.totals.specs.Sums.{sum_in, by_row}
+use Rattle.totals.specs.Sums.{sum_in, numbered}
 use Rattle.tables.proofs.given.totals_of.Goals as goal
 
 -- all rows but one have nothing
 pub returns : goal.returns
-unfolding sum_in by_row
+unfolding sum_in numbered
 returns c =
     let from = c.from.result in
     let small : unsigned_abs from < 2 ^ 63 = omega (arith, ints, c.from.ensures, c.ranges.bought.fits) in
