@@ -1,4 +1,4 @@
--- That the three cuts are cuts. Assumes nothing.
+-- That the three cuts are cuts. It stands among the definitions, as each cut names its law, and cuts see no proofs. Assumes nothing.
 use Rattle.std.specs.Prelude.{ℕ}
 use Rattle.std.proofs.Common.{arith}
 use Rattle.codes.specs.Ranges.{Within}
