@@ -30,12 +30,12 @@ impl Book {
         }
     }
 
+    // As many as there are at most: a book is plain, and no bound on `used` is known of every one.
     fn in_use(&self) -> &[Place]
         ensures value { result.now ≡ in_use self.now }
         ensures whole { length self.now.places ≡ PLACES }
     {
-        let places: &[Place] = &self.places;
-        &places[..self.used.min(PLACES)]
+        &self.places[..self.used.min(PLACES)]
     }
 
     // What its lines come to, row by row.
