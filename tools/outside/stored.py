@@ -20,9 +20,10 @@ import reference
 import stored_figures
 import stored_form
 import stored_grades
+import stored_rows
 import stored_sends
 
-SUBJECTS = (stored_form, stored_sends, stored_figures, stored_grades)
+SUBJECTS = (stored_form, stored_sends, stored_rows, stored_figures, stored_grades)
 
 
 def stored_runs():
