@@ -1,5 +1,6 @@
 // Pages by each cut, of 400 grams in each of the rows 1, 3 and 22: the running sum is 400, 800 and 1,200.
 use crate::notes::{entry, house, list};
+use booking::Row;
 use grades::Grade;
 use pages::{ByRow, ByStage, ByType, Cut, Figure};
 use refusals::Refusal;
@@ -66,6 +67,19 @@ fn by_row(rt: HostRuntime) -> Result<(), Refusal> {
     expected[22] = figure(-9, 9);
     assert_eq!(rt; figures, expected);
     Ok(())
+}
+
+// The heading of each row, by stage and by type.
+#[test]
+fn every_row(rt: HostRuntime) {
+    let stages = [
+        1, 1, 2, 2, 2, 2, 2, 2, 2, 2, 3, 3, 3, 3, 3, 3, 3, 3, 3, 3, 3, 4,
+    ];
+    let types = [
+        3, 3, 3, 3, 3, 3, 3, 3, 3, 3, 1, 2, 2, 1, 2, 3, 3, 3, 2, 4, 1, 3,
+    ];
+    assert_eq!(rt; Row::ALL.map(|row| ByStage.heading(row)), stages);
+    assert_eq!(rt; Row::ALL.map(|row| ByType.heading(row)), types);
 }
 
 #[test]

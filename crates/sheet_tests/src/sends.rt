@@ -38,6 +38,25 @@ fn a_withdrawal_ahead_of_its_amendment(rt: HostRuntime) -> Result<(), Refusal> {
     Ok(())
 }
 
+// A line that differs from the held one in its row, its span or its code alone contradicts it, though it weighs the same.
+#[test]
+fn lines_that_are_not_equal(rt: HostRuntime) -> Result<(), Refusal> {
+    let mut sheet = Sheet::open(house()?, list());
+    let mut held = entry(1, 0, 21, 1_000);
+    held[14] = 10;
+    assert_eq!(rt; sheet.send(&held), Ok(()));
+    assert_eq!(rt; sheet.send(&held), Err(Refusal::Superseded));
+    let mut spans = held;
+    spans[14] = 20;
+    assert_eq!(rt; sheet.send(&spans), Err(Refusal::Contradicted));
+    let mut codes = held;
+    codes[16] = 8;
+    assert_eq!(rt; sheet.send(&codes), Err(Refusal::Contradicted));
+    assert_eq!(rt; sheet.send(&entry(2, 0, 3, 1_000)), Ok(()));
+    assert_eq!(rt; sheet.send(&entry(2, 0, 4, 1_000)), Err(Refusal::Contradicted));
+    Ok(())
+}
+
 // 512 numbers, one more, and then an amendment of one of them.
 #[test]
 fn a_full_book(rt: HostRuntime) -> Result<(), Refusal> {

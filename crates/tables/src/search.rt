@@ -29,7 +29,7 @@ const SHARE_GRAMS: u32 = 10_000;
 // The largest limit within which the grade is given to a square metre in a year; none where it is given within no limit.
 #[tactic(auto, using(crate::proofs::Searching::searching))]
 pub(crate) fn largest_limit(grade: Grade, building: &Building) -> Option<u16>
-    ensures { Largest (GivenWithin (grade_number grade) (numbers_of building.now)) LIMITS_END result }
+    ensures { Largest (GivenWithin (grade_number grade) (numbers_of building.now)) 2001 result }
 {
     let mut largest = None;
     for limit in 0..LIMITS_END {
@@ -43,7 +43,7 @@ pub(crate) fn largest_limit(grade: Grade, building: &Building) -> Option<u16>
 // By how many per cent of the reference the weight has to lie below it, to the gram; none where no whole number is so many.
 #[tactic(auto, using(crate::proofs::Searching::searching))]
 pub(crate) fn largest_share(grade: Grade, building: &Building) -> Option<u16>
-    ensures { Largest (GivenBelow (grade_number grade) (numbers_of building.now)) SHARES_END result }
+    ensures { Largest (GivenBelow (grade_number grade) (numbers_of building.now)) 101 result }
 {
     let mut largest = None;
     for share in 0..SHARES_END {
