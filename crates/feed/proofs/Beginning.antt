@@ -1,19 +1,25 @@
 -- What bytes begin with: their first note, which is read or refused, and what is left after it. Assumes nothing.
-use Rattle.std.proofs.Common.{◌≡◌, ℕ, List, ◌++◌, length, drop, Some, None, Ok, Err, sym, ap, ◌∙◌, subst, arith}
+use Rattle.std.proofs.Common.{◌≡◌, ℕ, List, ◌++◌, length, drop, Some, None, Ok, Err, Result, sym, ap, ◌∙◌, subst, arith}
+use Rattle.feed.specs.declared.building.Building.{Building}
+use Rattle.feed.specs.declared.factor.FactorRow.{FactorRow}
 use Rattle.feed.specs.declared.reader.Part.{Part}
 use Rattle.feed.specs.declared.reader.Reader.{Reader}
+use Rattle.feed.specs.Buildings.{IsBuilding, numbers_of}
+use Rattle.feed.specs.Factors.{IsFactorRow}
 use Rattle.feed.specs.Feeds.{Answer, text, left_of, Opened, Hands, Answered}
 use Rattle.feed.specs.Frames.{Framed, OneNote, RowFirst, first_note, note_kind}
 use Rattle.feed.specs.Readings.{Reads, readable}
 use Rattle.feed.proofs.Framing.{one_first, first_one, first_whole, framed_one, framed_front, front_only}
 use Rattle.feed.proofs.Running.{hands_next, hands_note}
 use Rattle.refusals.specs.declared.refusal.Refusal.{Refusal}
-use Rattle.refusals.specs.Refusals.{refusal_number}
-use Rattle.refusals.proofs.Deciding.{unbroken}
+use Rattle.refusals.proofs.Deciding.{Same, decided_only}
 
--- a first note is read or refused, and not both
-pub not_both : {X : Type 0} (Wanted : ℕ → Type 0) (Value : List ℕ → X → Type 0) (bs : List ℕ) (x : X) (f : Refusal) → Reads Wanted Value bs (Ok x) → Reads Wanted Value bs (Err f) → ⊥
-not_both Wanted Value bs x f a b = unbroken (readable Wanted bs) a.0 (refusal_number f) b.0
+-- reading a building has one answer, and so has reading a factor row
+pub building_once : (bs : List ℕ) (r s : Result Building Refusal) → Reads (λ k. k ≡ 1) IsBuilding bs r → Reads (λ k. k ≡ 1) IsBuilding bs s → Same (λ b c. numbers_of b ≡ numbers_of c) r s
+building_once bs = decided_only (readable (λ k. k ≡ 1) bs) (IsBuilding (first_note bs)) (IsBuilding (first_note bs)) (λ b c. numbers_of b ≡ numbers_of c) (λ b c is is'. is ∙ sym is')
+
+pub row_once : (bs : List ℕ) (r s : Result FactorRow Refusal) → Reads (λ k. k ≡ 2) IsFactorRow bs r → Reads (λ k. k ≡ 2) IsFactorRow bs s → Same ◌≡◌ r s
+row_once bs = decided_only (readable (λ k. k ≡ 2) bs) (IsFactorRow (first_note bs)) (IsFactorRow (first_note bs)) ◌≡◌ (λ a b is is'. is ∙ sym is')
 
 -- where what is left begins with a note, a reader hands it out
 pub handed : (r : Reader) (a : Answer) (t : Reader) → Answered r a t → Framed (left_of r) → (p : Part) × Hands r p t

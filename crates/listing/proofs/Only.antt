@@ -5,10 +5,10 @@ use Rattle.feed.specs.declared.note.Note.{Note}
 use Rattle.refusals.specs.declared.refusal.Refusal.{Refusal}
 use Rattle.booking.specs.declared.entry.Entry.{Entry}
 use Rattle.booking.specs.declared.line.Line.{Line as Booking}
-use Rattle.booking.specs.Booked.{Booked, Books}
+use Rattle.booking.specs.Booked.{Booked, Books, line_numbers}
 use Rattle.booking.specs.Rows.{subtracted}
 use Rattle.booking.specs.Weights.{signed_grams}
-use Rattle.booking.proofs.Single.{one_line, one_refusal, not_both}
+use Rattle.booking.proofs.Single.{books_once, same_codes}
 use Rattle.booking.specs.Entries.{kind_entry}
 use Rattle.factors.specs.Maps.{Map}
 use Rattle.feed.specs.Frames.{Framed, first_note, note_kind}
@@ -20,7 +20,7 @@ use Rattle.feed.specs.Words.{named}
 use Rattle.refusals.specs.Refusals.{refusal_number, refusal_codes}
 use Rattle.refusals.specs.Texts.{refusal_said}
 use Rattle.refusals.proofs.Numbers.{no_codes, same_words}
-use Rattle.refusals.proofs.Deciding.{least_only, unbroken, broken_up_to}
+use Rattle.refusals.proofs.Deciding.{Same, decided_only, broken_up_to}
 use Rattle.feed.proofs.Framing.{framed_front, framed_or_not, front_only}
 use Rattle.listing.specs.Lines.{note_said, RefusedSaid, outcome_said, Weighs, NoteTold, Said, Tells, Line}
 use Rattle.listing.specs.Openings.{Account, unbooked, by, account_with}
@@ -43,33 +43,34 @@ refused_only bs f g s t same a b =
 line_said : Booked → List ℕ
 line_said b = codes "thousandths=" ++ (decimal b.thousandths ++ (codes " grams=" ++ signed_decimal (signed_grams (subtracted b.row) b.grams)))
 
-outcome_only : (y : ℕ) (known : Map) (e : Entry) (p q : Result Booking Refusal) → Books y known e p → Books y known e q → outcome_said (Some p) ≡ outcome_said (Some q)
+outcome_only : (y : ℕ) (known : Map) (e : Entry) (p q : Result Booking Refusal) → Books y known e p → Books y known e q → Same (λ l m. line_numbers l ≡ line_numbers m) p q → outcome_said (Some p) ≡ outcome_said (Some q)
 unfolding line_said
-outcome_only y known e (Ok l) (Ok m) a b = ap line_said (one_line y known e l m a b)
-outcome_only y known e (Ok l) (Err g) a b = absurd (not_both y known e l g a b)
-outcome_only y known e (Err f) (Ok m) a b = absurd (not_both y known e m f b a)
-outcome_only y known e (Err f) (Err g) a b = let same = one_refusal y known e f g a b in same_words f g same.0 same.1
+outcome_only y known e (Ok l) (Ok m) a b same = ap line_said same
+outcome_only y known e (Ok l) (Err g) a b same = absurd same
+outcome_only y known e (Err f) (Ok m) a b same = absurd same
+outcome_only y known e (Err f) (Err g) a b same = same_words f g same (same_codes y known e f g same a b)
 
 weighs_only : (a : Account) (e : Option Entry) (s t : List ℕ) → Weighs a e s → Weighs a e t → s ≡ t
 weighs_only a None s t w v = w ∙ sym v
 weighs_only unbooked (Some e) s t w v = w ∙ sym v
-weighs_only (by y known) (Some e) s t w v = w.text ∙ ap (λ o. codes " " ++ o) (outcome_only y known e w.answer v.answer w.books v.books) ∙ sym v.text
+weighs_only (by y known) (Some e) s t w v = w.text ∙ ap (λ o. codes " " ++ o) (outcome_only y known e w.answer v.answer w.books v.books (books_once y known e w.answer v.answer w.books v.books)) ∙ sym v.text
 
 note_only : (a : Account) (n s t : List ℕ) → NoteTold a n s → NoteTold a n t → s ≡ t
 note_only a n s t p q = p.text ∙ ap (λ w. note_said n ++ w) (weighs_only a (kind_entry (note_kind n) n) _ _ p.weighs q.weighs) ∙ sym q.text
 
 -- what is said of bytes depends on them alone
-said_only : (a : Account) (bs s t : List ℕ) (p q : Result Note Refusal) → Reads KindRange Says bs p → Reads KindRange Says bs q → Said a bs p s → Said a bs q t → s ≡ t
-said_only a bs s t (Ok m) (Ok n) reads reads' said said' = note_only a (first_note bs) s t said said'
-said_only a bs s t (Ok m) (Err g) reads reads' said said' = absurd (unbroken (readable KindRange bs) reads.0 _ reads'.0)
-said_only a bs s t (Err f) (Ok n) reads reads' said said' = absurd (unbroken (readable KindRange bs) reads'.0 _ reads.0)
-said_only a bs s t (Err f) (Err g) reads reads' said said' =
-    let same = least_only (readable KindRange bs) _ _ reads reads' in
+said_only : (a : Account) (bs s t : List ℕ) (p q : Result Note Refusal) → Reads KindRange Says bs p → Reads KindRange Says bs q → Same (λ m n. Unit {0}) p q → Said a bs p s → Said a bs q t → s ≡ t
+said_only a bs s t (Ok m) (Ok n) reads reads' same said said' = note_only a (first_note bs) s t said said'
+said_only a bs s t (Ok m) (Err g) reads reads' same said said' = absurd same
+said_only a bs s t (Err f) (Ok n) reads reads' same said said' = absurd same
+said_only a bs s t (Err f) (Err g) reads reads' same said said' =
     let none = names_none bs f reads ∙ sym (names_none bs g reads') in
     refused_only bs f g s t (same_words f g same none) said said'
 
 tells_only : (a : Account) (bs s t : List ℕ) → Tells a bs s → Tells a bs t → s ≡ t
-tells_only a bs s t x y = said_only a bs s t _ _ x.read y.read x.tells y.tells
+tells_only a bs s t x y =
+    let same = decided_only (readable KindRange bs) (Says (first_note bs)) (Says (first_note bs)) (λ m n. Unit {0}) (λ m n p q. tt) x.answer y.answer x.read y.read in
+    said_only a bs s t x.answer y.answer x.read y.read same x.tells y.tells
 
 pub line_only : (a : Account) (k at : ℕ) (bs l m : List ℕ) → Line a k at bs l → Line a k at bs m → l ≡ m
 line_only a k at bs l m x y =

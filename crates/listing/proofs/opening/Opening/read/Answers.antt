@@ -1,13 +1,12 @@
-use Rattle.std.proofs.Common.{◌≡◌, None, vec_items, sym, subst}
-use Rattle.feed.specs.Buildings.{IsBuilding}
+use Rattle.std.proofs.Common.{None, Ok, Err, vec_items, sym, subst}
 use Rattle.listing.specs.Openings.{FitRows, Begins, building, none}
-use Rattle.feed.proofs.Beginning.{not_both, rest_left}
+use Rattle.feed.proofs.Beginning.{building_once, rest_left}
 use Rattle.listing.proofs.opening.Opening.read.Goals as goal
 
 pub returns-in_default : goal.returns-in_default
 returns-in_default c =
     let feed = c.args.feed.now in
-    subst (Begins feed None) (sym c.new.ensures.items) (none (λ b reads. not_both (λ k. k ≡ 1) IsBuilding feed b c.in_default.field-0 reads c.in_default.ensures.value))
+    subst (Begins feed None) (sym c.new.ensures.items) (none (λ b reads. building_once feed (Ok b) (Err c.in_default.field-0) reads c.in_default.ensures.value))
 
 pub returns : goal.returns
 returns c =
