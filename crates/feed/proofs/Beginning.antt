@@ -8,17 +8,17 @@ use Rattle.feed.specs.Buildings.{IsBuilding, numbers_of}
 use Rattle.feed.specs.Factors.{IsFactorRow}
 use Rattle.feed.specs.Feeds.{Answer, text, left_of, Opened, Hands, Answered}
 use Rattle.feed.specs.Frames.{Framed, OneNote, RowFirst, first_note, note_kind}
-use Rattle.feed.specs.Readings.{Reads, readable}
+use Rattle.feed.specs.Readings.{ReadsBuilding, ReadsFactorRow, readable}
 use Rattle.feed.proofs.Framing.{one_first, first_one, first_whole, framed_one, framed_front, front_only}
 use Rattle.feed.proofs.Running.{hands_next, hands_note}
 use Rattle.refusals.specs.declared.refusal.Refusal.{Refusal}
 use Rattle.refusals.proofs.Deciding.{Same, decided_only}
 
 -- reading a building has one answer, and so has reading a factor row
-pub building_once : (bs : List ℕ) (r s : Result Building Refusal) → Reads (λ k. k ≡ 1) IsBuilding bs r → Reads (λ k. k ≡ 1) IsBuilding bs s → Same (λ b c. numbers_of b ≡ numbers_of c) r s
+pub building_once : (bs : List ℕ) (r s : Result Building Refusal) → ReadsBuilding bs r → ReadsBuilding bs s → Same (λ b c. numbers_of b ≡ numbers_of c) r s
 building_once bs = decided_only (readable (λ k. k ≡ 1) bs) (IsBuilding (first_note bs)) (IsBuilding (first_note bs)) (λ b c. numbers_of b ≡ numbers_of c) (λ b c is is'. is ∙ sym is')
 
-pub row_once : (bs : List ℕ) (r s : Result FactorRow Refusal) → Reads (λ k. k ≡ 2) IsFactorRow bs r → Reads (λ k. k ≡ 2) IsFactorRow bs s → Same ◌≡◌ r s
+pub row_once : (bs : List ℕ) (r s : Result FactorRow Refusal) → ReadsFactorRow bs r → ReadsFactorRow bs s → Same ◌≡◌ r s
 row_once bs = decided_only (readable (λ k. k ≡ 2) bs) (IsFactorRow (first_note bs)) (IsFactorRow (first_note bs)) ◌≡◌ (λ a b is is'. is ∙ sym is')
 
 -- where what is left begins with a note, a reader hands it out

@@ -2,9 +2,9 @@
 use Rattle.std.proofs.Common.{◌≡◌, ℕ, List, ◌∷◌, Ok, Err, Option, sym, refl, ap, ◌∙◌, subst}
 use Rattle.feed.specs.declared.building.Building.{Building}
 use Rattle.feed.specs.declared.factor.FactorRow.{FactorRow}
-use Rattle.feed.specs.Factors.{factor_row, IsFactorRow}
+use Rattle.feed.specs.Factors.{factor_row}
 use Rattle.feed.specs.Frames.{first_note}
-use Rattle.feed.specs.Readings.{Reads}
+use Rattle.feed.specs.Readings.{ReadsFactorRow}
 use Rattle.feed.proofs.Framing.{front_only}
 use Rattle.feed.proofs.Beginning.{building_once, row_once, row_front}
 use Rattle.factors.specs.Layers.{project_map}
@@ -17,11 +17,11 @@ rows_only bs a b (row {rows = xs} n rest r one cut reads more) (row {rows = ys} 
     (λ i. is i ∷ rows_only rest xs ys more (subst (λ m. FitRows m ys) (sym same.1) more') i)
 rows_only bs a b (row n rest r one cut reads more) (passed n' rest' f one' cut' first reads' more') =
     let same = front_only n rest n' rest' one one' (sym cut ∙ cut') in
-    absurd (row_once n (Ok r) (Err f) reads (subst (λ m. Reads {X = FactorRow} (λ k. k ≡ 2) IsFactorRow m (Err f)) (sym same.0) reads'))
+    absurd (row_once n (Ok r) (Err f) reads (subst (λ m. ReadsFactorRow m (Err f)) (sym same.0) reads'))
 rows_only bs a b (row n rest r one cut reads more) (ended other) = absurd (other (row_front n rest bs one cut (reads.0.0, reads.0.1.0)))
 rows_only bs a b (passed n rest f one cut first reads more) (row n' rest' r one' cut' reads' more') =
     let same = front_only n rest n' rest' one one' (sym cut ∙ cut') in
-    absurd (row_once n (Ok r) (Err f) (subst (λ m. Reads (λ k. k ≡ 2) IsFactorRow m (Ok r)) (sym same.0) reads') reads)
+    absurd (row_once n (Ok r) (Err f) (subst (λ m. ReadsFactorRow m (Ok r)) (sym same.0) reads') reads)
 rows_only bs a b (passed n rest f one cut first reads more) (passed n' rest' f' one' cut' first' reads' more') =
     let same = front_only n rest n' rest' one one' (sym cut ∙ cut') in
     rows_only rest a b more (subst (λ m. FitRows m b) (sym same.1) more')

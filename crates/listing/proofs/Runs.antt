@@ -3,10 +3,9 @@ use Rattle.std.proofs.Common.{◌≡◌, ℕ, List, [], ◌∷◌, ◌++◌, Som
 use Rattle.feed.specs.declared.factor.FactorRow.{FactorRow}
 use Rattle.feed.specs.declared.reader.Part.{Part}
 use Rattle.feed.specs.declared.reader.Reader.{Reader}
-use Rattle.feed.specs.Factors.{IsFactorRow}
 use Rattle.feed.specs.Feeds.{Answer, text, left_of, Opened, Hands, Answered}
 use Rattle.feed.specs.Frames.{RowFirst}
-use Rattle.feed.specs.Readings.{Reads}
+use Rattle.feed.specs.Readings.{ReadsFactorRow}
 use Rattle.feed.proofs.Beginning.{row_alone}
 use Rattle.feed.proofs.Running.{hands_next, hands_note, no_note}
 use Rattle.refusals.specs.declared.refusal.Refusal.{Refusal}
@@ -33,14 +32,14 @@ module _ (bytes : List ℕ) (r : Reader) (rows : List FactorRow) where
       pub another_kind : (RowFirst (text p) → ⊥) → FitRows bytes rows
       another_kind other = no_row (λ first. other (subst RowFirst (sym step.note) (row_alone (left_of r) first)))
 
-      pub one_more : (f : FactorRow) (longer : List FactorRow) → Reads (λ k. k ≡ 2) IsFactorRow (text p) (Ok f) → longer ≡ rows ++ (f ∷ []) → Sofar bytes t longer
+      pub one_more : (f : FactorRow) (longer : List FactorRow) → ReadsFactorRow (text p) (Ok f) → longer ≡ rows ++ (f ∷ []) → Sofar bytes t longer
       one_more f longer reads is =
           record {
             same = step.over ∙ old.same;
             before = λ more h. subst (FitRows bytes) (sym (append_assoc rows (f ∷ []) more) ∙ ap (λ l. l ++ more) (sym is)) (old.before (f ∷ more) (row (text p) (left_of t) f (hands_note r p t step) (sym (hands_next r p t step)) reads h));
           }
 
-      pub passed_over : (f : Refusal) → RowFirst (text p) → Reads {X = FactorRow} (λ k. k ≡ 2) IsFactorRow (text p) (Err f) → Sofar bytes t rows
+      pub passed_over : (f : Refusal) → RowFirst (text p) → ReadsFactorRow (text p) (Err f) → Sofar bytes t rows
       passed_over f first reads =
           record {
             same = step.over ∙ old.same;

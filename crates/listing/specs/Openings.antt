@@ -3,24 +3,22 @@ use Rattle.std.specs.Prelude.{◌≡◌, ℕ, List, [], ◌∷◌, ◌++◌, Som
 use Rattle.refusals.specs.declared.refusal.Refusal.{Refusal}
 use Rattle.feed.specs.declared.building.Building.{Building}
 use Rattle.feed.specs.declared.factor.FactorRow.{FactorRow}
-use Rattle.feed.specs.Buildings.{IsBuilding}
-use Rattle.feed.specs.Factors.{IsFactorRow}
 use Rattle.feed.specs.Frames.{OneNote, RowFirst}
-use Rattle.feed.specs.Readings.{Reads}
+use Rattle.feed.specs.Readings.{ReadsBuilding, ReadsFactorRow}
 use Rattle.factors.specs.Layers.{project_map}
 use Rattle.factors.specs.Maps.{Map}
 use Rattle.listing.specs.declared.opening.Opening.{Opening}
 
 -- the run of factor rows that the bytes begin with; one that is refused is passed over
 pub data FitRows : List ℕ → List FactorRow → Type 0 where
-  row : {bs : List ℕ} {rows : List FactorRow} (n rest : List ℕ) (r : FactorRow) → OneNote n → bs ≡ n ++ rest → Reads (λ k. k ≡ 2) IsFactorRow n (Ok r) → FitRows rest rows → FitRows bs (r ∷ rows)
-  passed : {bs : List ℕ} {rows : List FactorRow} (n rest : List ℕ) (f : Refusal) → OneNote n → bs ≡ n ++ rest → RowFirst n → Reads {X = FactorRow} (λ k. k ≡ 2) IsFactorRow n (Err f) → FitRows rest rows → FitRows bs rows
+  row : {bs : List ℕ} {rows : List FactorRow} (n rest : List ℕ) (r : FactorRow) → OneNote n → bs ≡ n ++ rest → ReadsFactorRow n (Ok r) → FitRows rest rows → FitRows bs (r ∷ rows)
+  passed : {bs : List ℕ} {rows : List FactorRow} (n rest : List ℕ) (f : Refusal) → OneNote n → bs ≡ n ++ rest → RowFirst n → ReadsFactorRow n (Err f) → FitRows rest rows → FitRows bs rows
   ended : {bs : List ℕ} → (RowFirst bs → ⊥) → FitRows bs []
 
 -- a feed begins with a building, which is its first note, and the factor rows after it; or it has neither
 pub data Begins (feed : List ℕ) : Option Building → List FactorRow → Type 0 where
-  building : {rows : List FactorRow} (n rest : List ℕ) (b : Building) → Reads (λ k. k ≡ 1) IsBuilding feed (Ok b) → OneNote n → feed ≡ n ++ rest → FitRows rest rows → Begins feed (Some b) rows
-  none : ((b : Building) → Reads (λ k. k ≡ 1) IsBuilding feed (Ok b) → ⊥) → Begins feed None []
+  building : {rows : List FactorRow} (n rest : List ℕ) (b : Building) → ReadsBuilding feed (Ok b) → OneNote n → feed ≡ n ++ rest → FitRows rest rows → Begins feed (Some b) rows
+  none : ((b : Building) → ReadsBuilding feed (Ok b) → ⊥) → Begins feed None []
 
 -- what entries are booked by: the building's life in years and the factors, if there is a building
 pub data Account : Type 0 where

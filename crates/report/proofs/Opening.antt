@@ -9,9 +9,8 @@ use Rattle.refusals.proofs.Deciding.{least_here}
 use Rattle.feed.specs.declared.building.Building.{Building}
 use Rattle.feed.specs.declared.factor.FactorRow.{FactorRow}
 use Rattle.feed.specs.declared.reader.Reader.{Reader}
-use Rattle.feed.specs.Buildings.{IsBuilding}
 use Rattle.feed.specs.Feeds.{Answer, left_of, Opened, Answered}
-use Rattle.feed.specs.Readings.{Reads}
+use Rattle.feed.specs.Readings.{ReadsBuilding}
 use Rattle.feed.proofs.Beginning.{rest_left}
 use Rattle.report.specs.declared.project.Project.{Project}
 use Rattle.report.specs.declared.project.ProjectError.{ProjectError}
@@ -32,7 +31,7 @@ module _ (feed : List ℕ) where
   too_many_bytes more = too_long (least_here 25 [] (λ few. omega arith) tt)
 
   -- a feed that begins with a building opens with it and the rows after it
-  module _ (short : Kept (sized feed)) (b : Building) (reads : Reads (λ k. k ≡ 1) IsBuilding feed (Ok b)) (r : Reader) (a : Answer) (t : Reader) (start : Opened feed r) (step : Answered r a t) where
+  module _ (short : Kept (sized feed)) (b : Building) (reads : ReadsBuilding feed (Ok b)) (r : Reader) (a : Answer) (t : Reader) (start : Opened feed r) (step : Answered r a t) where
     pub opens_with : (read : Result (List FactorRow × List ℕ) Refusal) → Rows 0 (left_of t) read → Opens feed (parts_with (numbers_of b) read)
     opens_with read rows =
         let rest = rest_left feed r a t start step reads.0.0 in

@@ -5,10 +5,10 @@ use Rattle.refusals.specs.Refusals.{Conditions, Least, Kept, Decided, refusal_nu
 use Rattle.feed.specs.declared.building.Building.{Building}
 use Rattle.feed.specs.declared.building.BuildingNumbers.{BuildingNumbers}
 use Rattle.feed.specs.declared.factor.FactorRow.{FactorRow}
-use Rattle.feed.specs.Buildings.{IsBuilding, numbers_of}
+use Rattle.feed.specs.Buildings.{numbers_of}
 use Rattle.feed.specs.Factors.{IsFactorRow}
 use Rattle.feed.specs.Frames.{OneNote, RowFirst, first_note}
-use Rattle.feed.specs.Readings.{Reads, readable}
+use Rattle.feed.specs.Readings.{ReadsBuilding, readable}
 use Rattle.report.specs.declared.project.Project.{Project}
 use Rattle.report.specs.declared.project.ProjectError.{ProjectError}
 use Rattle.report.specs.declared.project.ProjectError.TheVariants.{Refused, OutOfMemory}
@@ -50,8 +50,8 @@ parts_with b (Err f) = Err f
 -- what a feed opens with, or why it is refused before anything is sent: it is too long, its first note is no building, or a factor row of the run after that is refused
 pub data Opens (feed : List ℕ) : Result ProjectParts Refusal → Type 0 where
   too_long : {f : Refusal} → Least (sized feed) (refusal_number f) → Opens feed (Err f)
-  no_building : {f : Refusal} → Kept (sized feed) → Reads {X = Building} (λ k. k ≡ 1) IsBuilding feed (Err f) → Opens feed (Err f)
-  building : {all : Result ProjectParts Refusal} {read : Result (List FactorRow × List ℕ) Refusal} (note rest : List ℕ) (b : Building) → Kept (sized feed) → Reads (λ k. k ≡ 1) IsBuilding feed (Ok b) → OneNote note → feed ≡ note ++ rest → Rows 0 rest read → all ≡ parts_with (numbers_of b) read → Opens feed all
+  no_building : {f : Refusal} → Kept (sized feed) → ReadsBuilding feed (Err f) → Opens feed (Err f)
+  building : {all : Result ProjectParts Refusal} {read : Result (List FactorRow × List ℕ) Refusal} (note rest : List ℕ) (b : Building) → Kept (sized feed) → ReadsBuilding feed (Ok b) → OneNote note → feed ≡ note ++ rest → Rows 0 rest read → all ≡ parts_with (numbers_of b) read → Opens feed all
 
 -- a project by what its feed opens with
 abbrev pub parts_of : Project → ProjectParts
