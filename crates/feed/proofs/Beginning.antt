@@ -7,10 +7,10 @@ use Rattle.feed.specs.declared.reader.Reader.{Reader}
 use Rattle.feed.specs.Buildings.{IsBuilding, numbers_of}
 use Rattle.feed.specs.Factors.{IsFactorRow}
 use Rattle.feed.specs.Feeds.{Answer, text, left_of, Opened, Hands, Answered}
-use Rattle.feed.specs.Frames.{Framed, OneNote, RowFirst, first_note, note_kind}
+use Rattle.feed.specs.Frames.{Framed, OneNote, RowFirst, first_note, after_first, note_kind}
 use Rattle.feed.specs.Readings.{ReadsBuilding, ReadsFactorRow, readable}
 use Rattle.feed.proofs.Framing.{one_first, first_one, first_whole, framed_one, framed_front, front_only}
-use Rattle.feed.proofs.Running.{hands_next, hands_note}
+use Rattle.feed.proofs.Running.{hands_left, hands_next, hands_note}
 use Rattle.refusals.specs.declared.refusal.Refusal.{Refusal}
 use Rattle.refusals.proofs.Deciding.{Same, decided_only}
 
@@ -26,6 +26,13 @@ pub handed : (r : Reader) (a : Answer) (t : Reader) → Answered r a t → Frame
 handed r (Ok (Some p)) t step framed = (p, step)
 handed r (Ok None) t step framed = let e = ap length step.0 in absurd (omega (arith, framed.head))
 handed r (Err f) t step framed = absurd (step.0.1 framed)
+
+-- after the first call of a reader over a feed that has a first note, what comes after that note is left
+pub first_passed : (feed : List ℕ) (r : Reader) (a : Answer) (t : Reader) → Opened feed r → Answered r a t → Framed feed → left_of t ≡ after_first feed
+first_passed feed r a t start step framed =
+    let all : left_of r ≡ feed = rw (start.bytes, start.over) in
+    let hands = handed r a t step (subst Framed (sym all) framed) in
+    hands_left r hands.0 t hands.1 ∙ ap after_first all
 
 -- after the first call of a reader over a feed that has a first note, the rest is left
 pub rest_left : (feed : List ℕ) (r : Reader) (a : Answer) (t : Reader) → Opened feed r → Answered r a t → Framed feed → (n : List ℕ) × OneNote n × (feed ≡ n ++ left_of t)
