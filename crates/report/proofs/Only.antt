@@ -8,9 +8,10 @@ use Rattle.feed.specs.declared.building.BuildingNumbers.{BuildingNumbers}
 use Rattle.feed.specs.declared.factor.FactorRow.{FactorRow}
 use Rattle.feed.specs.Buildings.{numbers_of}
 use Rattle.feed.specs.Factors.{IsFactorRow}
-use Rattle.feed.specs.Frames.{Framed, OneNote, first_note}
+use Rattle.feed.specs.Frames.{Framed, OneNote, first_note, after_first}
 use Rattle.feed.proofs.Beginning.{building_once}
 use Rattle.feed.proofs.Framing.{framed_front, front_only}
+use Rattle.feed.proofs.Rows.{rows_only}
 use Rattle.sheet.specs.States.{State, asked, line_sent, with_line, Sends}
 use Rattle.sheet.specs.Placing.{placing}
 use Rattle.sheet.specs.Accounts.{sendings}
@@ -28,7 +29,8 @@ use Rattle.report.specs.Calls.{said, send_said}
 use Rattle.report.specs.Lines.{denied_line, page_lines, grade_line}
 use Rattle.report.specs.Reports.{Reports, denied, account, LawfulReport}
 use Rattle.report.proofs.Concluding.{concludes}
-use Rattle.report.specs.Projects.{sized, row_asked, ReadsRow, Rows, ended, refused, row, with_row, ProjectParts, parts_with, Opens, too_long, no_building, building}
+use Rattle.report.proofs.Listed.{with_left}
+use Rattle.report.specs.Projects.{sized, row_asked, ReadsRow, ProjectParts, with_row, TakesRows, all, row, refused, Opens, too_long, no_building, building}
 
 -- bytes that begin with a note are not of those that begin with none, and are not empty
 begins : (n rest bs : List ℕ) → OneNote n → bs ≡ n ++ rest → Framed bs
@@ -50,48 +52,31 @@ sends_of_only bs a b (note {more = xs} n rest one cut more) (note {more = ys} n'
     let same = front_only n rest n' rest' one one' (sym cut ∙ cut') in
     (λ i. same.0 i ∷ sends_of_only rest xs ys more (subst (λ m. SendsOf m ys) (sym same.1) more') i)
 
-with_same : (r r' : FactorRow) (a b : Result (List FactorRow × List ℕ) Refusal) → r ≡ r' → Same ◌≡◌ a b → Same ◌≡◌ (with_row r a) (with_row r' b)
-with_same r r' (Ok x) (Ok y) is same = (λ i. (is i ∷ (same i).0, (same i).1))
-with_same r r' (Ok x) (Err g) is same = same
-with_same r r' (Err f) (Ok y) is same = same
-with_same r r' (Err f) (Err g) is same = same
-
 row_once : (n : ℕ) (bs : List ℕ) (r s : Result FactorRow Refusal) → ReadsRow n bs r → ReadsRow n bs s → Same ◌≡◌ r s
 row_once n bs = decided_only (row_asked n bs) (IsFactorRow (first_note bs)) (IsFactorRow (first_note bs)) ◌≡◌ (λ a b is is'. is ∙ sym is')
 
-rows_only : (n : ℕ) (bs : List ℕ) (a b : Result (List FactorRow × List ℕ) Refusal) → Rows n bs a → Rows n bs b → Same ◌≡◌ a b
-rows_only n bs a b (ended other) (ended other') = refl
-rows_only n bs a b (ended other) (refused first reads) = absurd (other first)
-rows_only n bs a b (ended other) (row m rest r one cut reads more is) = absurd (other (reads.0.0, reads.0.1.0))
-rows_only n bs a b (refused first reads) (ended other) = absurd (other first)
-rows_only n bs a b (refused {f = f} first reads) (refused {f = g} first' reads') = row_once n bs (Err f) (Err g) reads reads'
-rows_only n bs a b (refused {f = f} first reads) (row m rest r one cut reads' more is) = absurd (row_once n bs (Err f) (Ok r) reads reads')
-rows_only n bs a b (row m rest r one cut reads more is) (ended other) = absurd (other (reads.0.0, reads.0.1.0))
-rows_only n bs a b (row m rest r one cut reads more is) (refused {f = f} first reads') = absurd (row_once n bs (Ok r) (Err f) reads reads')
-rows_only n bs a b (row {more = xs} m rest r one cut reads more is) (row {more = ys} m' rest' r' one' cut' reads' more' is') =
-    let same = front_only m rest m' rest' one one' (sym cut ∙ cut') in
-    let tail = rows_only (n + 1) rest xs ys more (subst (λ b. Rows (n + 1) b ys) (sym same.1) more') in
-    subst (λ x. Same ◌≡◌ x b) (sym is) (subst (Same ◌≡◌ (with_row r xs)) (sym is') (with_same r r' xs ys (row_once n bs (Ok r) (Ok r') reads reads') tail))
-
-parts_same : (b b' : BuildingNumbers) (x y : Result (List FactorRow × List ℕ) Refusal) → b ≡ b' → Same ◌≡◌ x y → Same ◌≡◌ (parts_with b x) (parts_with b' y)
-parts_same b b' (Ok x) (Ok y) is same = (λ i. record { building = is i; rows = (same i).0; notes = (same i).1 })
-parts_same b b' (Ok x) (Err g) is same = same
-parts_same b b' (Err f) (Ok y) is same = same
-parts_same b b' (Err f) (Err g) is same = same
+takes_only : (c : ProjectParts) (notes : List (List ℕ)) (a b : Result ProjectParts Refusal) → TakesRows c notes a → TakesRows c notes b → Same ◌≡◌ a b
+takes_only c notes a b all all = refl
+takes_only c notes a b (row {note = n} {notes = ns} x reads more) (row y reads' more') =
+    let same = row_once (length c.rows) n (Ok x) (Ok y) reads reads' in
+    takes_only (with_row c x) ns a b more (subst (λ z. TakesRows (with_row c z) ns b) (sym same) more')
+takes_only c notes a b (row {note = n} x reads more) (refused {f = f} reads') = absurd (row_once (length c.rows) n (Ok x) (Err f) reads reads')
+takes_only c notes a b (refused {note = n} {f = f} reads) (row x reads' more) = absurd (row_once (length c.rows) n (Err f) (Ok x) reads reads')
+takes_only c notes a b (refused {note = n} {f = f} reads) (refused {f = g} reads') = row_once (length c.rows) n (Err f) (Err g) reads reads'
 
 pub opens_only : (feed : List ℕ) (a b : Result ProjectParts Refusal) → Opens feed a → Opens feed b → Same ◌≡◌ a b
 opens_only feed a b (too_long {f = f} long) (too_long {f = g} long') = least_only (sized feed) (refusal_number f) (refusal_number g) long long'
 opens_only feed a b (too_long {f = f} long) (no_building short reads) = absurd (unbroken (sized feed) short (refusal_number f) long.0)
-opens_only feed a b (too_long {f = f} long) (building m rest x short reads one cut rows is) = absurd (unbroken (sized feed) short (refusal_number f) long.0)
+opens_only feed a b (too_long {f = f} long) (building x short reads run takes) = absurd (unbroken (sized feed) short (refusal_number f) long.0)
 opens_only feed a b (no_building short reads) (too_long {f = f} long) = absurd (unbroken (sized feed) short (refusal_number f) long.0)
 opens_only feed a b (no_building {f = f} short reads) (no_building {f = g} short' reads') = building_once feed (Err f) (Err g) reads reads'
-opens_only feed a b (no_building {f = f} short reads) (building m rest x short' reads' one cut rows is) = absurd (building_once feed (Err f) (Ok x) reads reads')
-opens_only feed a b (building m rest x short reads one cut rows is) (too_long {f = f} long) = absurd (unbroken (sized feed) short (refusal_number f) long.0)
-opens_only feed a b (building m rest x short reads one cut rows is) (no_building {f = f} short' reads') = absurd (building_once feed (Ok x) (Err f) reads reads')
-opens_only feed a b (building {read = xs} m rest x short reads one cut rows is) (building {read = ys} m' rest' x' short' reads' one' cut' rows' is') =
-    let same = front_only m rest m' rest' one one' (sym cut ∙ cut') in
-    let read = rows_only 0 rest xs ys rows (subst (λ b. Rows 0 b ys) (sym same.1) rows') in
-    subst (λ z. Same ◌≡◌ z b) (sym is) (subst (Same ◌≡◌ (parts_with (numbers_of x) xs)) (sym is') (parts_same (numbers_of x) (numbers_of x') xs ys (building_once feed (Ok x) (Ok x') reads reads') read))
+opens_only feed a b (no_building {f = f} short reads) (building x short' reads' run takes) = absurd (building_once feed (Err f) (Ok x) reads reads')
+opens_only feed a b (building x short reads run takes) (too_long {f = f} long) = absurd (unbroken (sized feed) short (refusal_number f) long.0)
+opens_only feed a b (building x short reads run takes) (no_building {f = f} short' reads') = absurd (building_once feed (Ok x) (Err f) reads reads')
+opens_only feed a b (building {notes = ns} {left = l} x short reads run takes) (building {notes = ns'} {left = l'} y short' reads' run' takes') =
+    let numbers = building_once feed (Ok x) (Ok y) reads reads' in
+    let same = rows_only (after_first feed) ns ns' l l' run run' in
+    takes_only (with_left (numbers_of x) [] l) ns a b takes (rw (numbers, same.0, same.1) takes')
 
 -- the line for a refusal depends on its number alone
 denied_same : (k : ℕ) (f g : Refusal) → refusal_number f ≡ refusal_number g → denied_line k f ≡ denied_line k g
