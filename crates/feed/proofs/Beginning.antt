@@ -1,16 +1,15 @@
 -- What bytes begin with: their first note, which is read or refused, and what is left after it. Assumes nothing.
-use Rattle.std.proofs.Common.{◌≡◌, ℕ, List, ◌++◌, length, drop, Some, None, Ok, Err, Result, sym, ap, ◌∙◌, subst, arith}
+use Rattle.std.proofs.Common.{◌≡◌, ℕ, List, length, Some, None, Ok, Err, Result, sym, ap, ◌∙◌, subst, arith}
 use Rattle.feed.specs.declared.building.Building.{Building}
 use Rattle.feed.specs.declared.factor.FactorRow.{FactorRow}
 use Rattle.feed.specs.declared.reader.Part.{Part}
 use Rattle.feed.specs.declared.reader.Reader.{Reader}
 use Rattle.feed.specs.Buildings.{IsBuilding, numbers_of}
 use Rattle.feed.specs.Factors.{IsFactorRow}
-use Rattle.feed.specs.Feeds.{Answer, text, left_of, Opened, Hands, Answered}
-use Rattle.feed.specs.Frames.{Framed, OneNote, RowFirst, first_note, after_first, note_kind}
+use Rattle.feed.specs.Feeds.{Answer, left_of, Opened, Hands, Answered}
+use Rattle.feed.specs.Frames.{Framed, first_note, after_first}
 use Rattle.feed.specs.Readings.{ReadsBuilding, ReadsFactorRow, readable}
-use Rattle.feed.proofs.Framing.{one_first, first_one, first_whole, framed_one, framed_front, front_only}
-use Rattle.feed.proofs.Running.{hands_left, hands_next, hands_note}
+use Rattle.feed.proofs.Running.{hands_left}
 use Rattle.refusals.specs.declared.refusal.Refusal.{Refusal}
 use Rattle.refusals.proofs.Deciding.{Same, decided_only}
 
@@ -33,27 +32,3 @@ first_passed feed r a t start step framed =
     let all : left_of r ≡ feed = rw (start.bytes, start.over) in
     let hands = handed r a t step (subst Framed (sym all) framed) in
     hands_left r hands.0 t hands.1 ∙ ap after_first all
-
--- after the first call of a reader over a feed that has a first note, the rest is left
-pub rest_left : (feed : List ℕ) (r : Reader) (a : Answer) (t : Reader) → Opened feed r → Answered r a t → Framed feed → (n : List ℕ) × OneNote n × (feed ≡ n ++ left_of t)
-rest_left feed r a t start step framed =
-    let all : left_of r ≡ feed = rw (start.bytes, start.over) in
-    let hands = handed r a t step (subst Framed (sym all) framed) in
-    (text hands.0, hands_note r hands.0 t hands.1, sym all ∙ sym (hands_next r hands.0 t hands.1))
-
--- the first note of bytes that begin with a note
-pub first_front : (n rest bs : List ℕ) → OneNote n → bs ≡ n ++ rest → first_note bs ≡ n
-first_front n rest bs one cut =
-    let framed = subst Framed (sym cut) (framed_front n rest one) in
-    (front_only (first_note bs) (drop (length (first_note bs)) bs) n rest (one_first bs framed) one (first_whole bs framed ∙ cut)).0
-
--- bytes begin with a factor row where their first note is one
-pub row_front : (n rest bs : List ℕ) → OneNote n → bs ≡ n ++ rest → RowFirst n → RowFirst bs
-row_front n rest bs one cut first =
-    (subst Framed (sym cut) (framed_front n rest one), ap note_kind (first_front n rest bs one cut ∙ sym (first_one n one)) ∙ first.1)
-
--- and then their first note is one
-pub row_alone : (bs : List ℕ) → RowFirst bs → RowFirst (first_note bs)
-row_alone bs first =
-    let one = one_first bs first.0 in
-    (framed_one (first_note bs) one, ap note_kind (first_one (first_note bs) one) ∙ first.1)

@@ -33,7 +33,7 @@ impl FactorRow {
     ghost use Rattle.feed.specs.Readings.{ReadsFactorRow};
 
     // Whether the bytes begin with a note of this kind.
-    pub fn is_next(bytes: &[u8]) -> bool
+    pub(crate) fn is_next(bytes: &[u8]) -> bool
         ensures { MatchBool result (RowFirst bytes.now) (RowFirst bytes.now → ⊥) }
     {
         Head::read(bytes).is_ok_and(|head| head.kind == u16::from(Kind::Factor))
