@@ -23,9 +23,9 @@ use Rattle.refusals.proofs.Numbers.{no_codes, same_words}
 use Rattle.refusals.proofs.Deciding.{Same, decided_only, broken_up_to}
 use Rattle.feed.proofs.Framing.{framed_front, framed_or_not, front_only}
 use Rattle.listing.specs.Lines.{note_said, RefusedSaid, outcome_said, Weighs, NoteTold, Said, Tells, Line}
-use Rattle.listing.specs.Openings.{Account, unbooked, by, account_with}
+use Rattle.listing.specs.Openings.{Basis, unbooked, by, basis_with}
 use Rattle.listing.specs.Listings.{LastLine, Lists, note, last, Listing}
-use Rattle.listing.proofs.Begun.{account_only}
+use Rattle.listing.proofs.Begun.{basis_only}
 
 -- reading refuses by no number above 4, so its refusals name no codes
 names_none : (bs : List ℕ) (f : Refusal) → Reads {X = Note} KindRange Says bs (Err f) → refusal_codes f ≡ []
@@ -50,16 +50,16 @@ outcome_only y known e (Ok l) (Err g) a b same = absurd same
 outcome_only y known e (Err f) (Ok m) a b same = absurd same
 outcome_only y known e (Err f) (Err g) a b same = same_words f g same (same_codes y known e f g same a b)
 
-weighs_only : (a : Account) (e : Option Entry) (s t : List ℕ) → Weighs a e s → Weighs a e t → s ≡ t
+weighs_only : (a : Basis) (e : Option Entry) (s t : List ℕ) → Weighs a e s → Weighs a e t → s ≡ t
 weighs_only a None s t w v = w ∙ sym v
 weighs_only unbooked (Some e) s t w v = w ∙ sym v
 weighs_only (by y known) (Some e) s t w v = w.text ∙ ap (λ o. codes " " ++ o) (outcome_only y known e w.answer v.answer w.books v.books (books_once y known e w.answer v.answer w.books v.books)) ∙ sym v.text
 
-note_only : (a : Account) (n s t : List ℕ) → NoteTold a n s → NoteTold a n t → s ≡ t
+note_only : (a : Basis) (n s t : List ℕ) → NoteTold a n s → NoteTold a n t → s ≡ t
 note_only a n s t p q = p.text ∙ ap (λ w. note_said n ++ w) (weighs_only a (kind_entry (note_kind n) n) _ _ p.weighs q.weighs) ∙ sym q.text
 
 -- what is said of bytes depends on them alone
-said_only : (a : Account) (bs s t : List ℕ) (p q : Result Note Refusal) → Reads KindRange Says bs p → Reads KindRange Says bs q → Same (λ m n. Unit {0}) p q → Said a bs p s → Said a bs q t → s ≡ t
+said_only : (a : Basis) (bs s t : List ℕ) (p q : Result Note Refusal) → Reads KindRange Says bs p → Reads KindRange Says bs q → Same (λ m n. Unit {0}) p q → Said a bs p s → Said a bs q t → s ≡ t
 said_only a bs s t (Ok m) (Ok n) reads reads' same said said' = note_only a (first_note bs) s t said said'
 said_only a bs s t (Ok m) (Err g) reads reads' same said said' = absurd same
 said_only a bs s t (Err f) (Ok n) reads reads' same said said' = absurd same
@@ -67,20 +67,20 @@ said_only a bs s t (Err f) (Err g) reads reads' same said said' =
     let none = names_none bs f reads ∙ sym (names_none bs g reads') in
     refused_only bs f g s t (same_words f g same none) said said'
 
-tells_only : (a : Account) (bs s t : List ℕ) → Tells a bs s → Tells a bs t → s ≡ t
+tells_only : (a : Basis) (bs s t : List ℕ) → Tells a bs s → Tells a bs t → s ≡ t
 tells_only a bs s t x y =
     let same = decided_only (readable KindRange bs) (Says (first_note bs)) (Says (first_note bs)) (λ m n. Unit {0}) (λ m n p q. tt) x.answer y.answer x.read y.read in
     said_only a bs s t x.answer y.answer x.read y.read same x.tells y.tells
 
-pub line_only : (a : Account) (k at : ℕ) (bs l m : List ℕ) → Line a k at bs l → Line a k at bs m → l ≡ m
+pub line_only : (a : Basis) (k at : ℕ) (bs l m : List ℕ) → Line a k at bs l → Line a k at bs m → l ≡ m
 line_only a k at bs l m x y =
     x.text ∙ ap (λ s. decimal k ++ (named (codes "at", at) ++ (codes " " ++ (s ++ codes "\n")))) (tells_only a bs _ _ x.tells y.tells) ∙ sym y.text
 
-last_only : (a : Account) (k at : ℕ) (bs l m : List ℕ) → LastLine a k at bs l → LastLine a k at bs m → l ≡ m
+last_only : (a : Basis) (k at : ℕ) (bs l m : List ℕ) → LastLine a k at bs l → LastLine a k at bs m → l ≡ m
 last_only a k at [] l m p q = p.none refl ∙ sym (q.none refl)
 last_only a k at (x ∷ bs) l m p q = line_only a k at (x ∷ bs) l m (p.some (omega arith)) (q.some (omega arith))
 
-lists_only : (a : Account) (k at : ℕ) (bs s t : List ℕ) → Lists a k at bs s → Lists a k at bs t → s ≡ t
+lists_only : (a : Basis) (k at : ℕ) (bs s t : List ℕ) → Lists a k at bs s → Lists a k at bs t → s ≡ t
 lists_only a k at bs s t (note n rest l more one cut line rests text) (note n' rest' l' more' one' cut' line' rests' text') =
     let same = front_only n rest n' rest' one one' (sym cut ∙ cut') in
     let line'' = subst (λ b. Line a k at b l') (sym same.0) line' in
@@ -92,5 +92,5 @@ lists_only a k at bs s t (last unframed left) (last unframed' left') = last_only
 
 pub listing_only : (feed s t : List ℕ) → Listing feed s → Listing feed t → s ≡ t
 listing_only feed s t p q =
-    let same = account_only feed p.building q.building p.rows q.rows p.begins q.begins in
-    lists_only (account_with p.building p.rows) 1 0 feed s t p.lists (subst (λ a. Lists a 1 0 feed t) (sym same) q.lists)
+    let same = basis_only feed p.building q.building p.rows q.rows p.begins q.begins in
+    lists_only (basis_with p.building p.rows) 1 0 feed s t p.lists (subst (λ a. Lists a 1 0 feed t) (sym same) q.lists)

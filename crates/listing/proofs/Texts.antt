@@ -15,7 +15,7 @@ use Rattle.feed.specs.Readings.{Reads}
 use Rattle.feed.specs.Entries.{entry_kind}
 use Rattle.feed.specs.Words.{Named, named, head_fields, building_fields, factor_fields, entry_fields, withdrawal_fields, said_of, words}
 use Rattle.listing.specs.Lines.{kind_fields, note_said, Weighs, Tells}
-use Rattle.listing.specs.Openings.{Account}
+use Rattle.listing.specs.Openings.{Basis}
 
 pub said_at : (k : ℕ) (fields : List Named) (note : List ℕ) → note_kind note ≡ k → fields ≡ kind_fields k note → said_of k fields ≡ note_said note
 said_at k fields note kind same = ap (said_of k) same ∙ ap (λ j. said_of j (kind_fields j note)) (sym kind)
@@ -33,17 +33,17 @@ entry_said word head e quantity is =
     ap (λ h. word ++ (h ++ named quantity)) is ∙ ap (λ l. word ++ l) (flat_map_more named [] (head_fields e) quantity)
 
 -- all that is said of a note that is read, and what it is booked at
-pub tells_note : (a : Account) (bs : List ℕ) (note : Note) (weight : List ℕ) → Reads KindRange Says bs (Ok note) → Weighs a (kind_entry (note_kind (first_note bs)) (first_note bs)) weight → Tells a bs (words note ++ weight)
+pub tells_note : (a : Basis) (bs : List ℕ) (note : Note) (weight : List ℕ) → Reads KindRange Says bs (Ok note) → Weighs a (kind_entry (note_kind (first_note bs)) (first_note bs)) weight → Tells a bs (words note ++ weight)
 tells_note a bs note weight read weighs =
     record { answer = Ok note; read = read; tells = record { weight = weight; weighs = weighs; text = ap (λ w. w ++ weight) (says_words (first_note bs) note read.1) } }
 
 -- the entry of a note
-pub entry_weighs : (a : Account) (note : List ℕ) (e : SentEntry) (weight : List ℕ) → Says note (Entry e) → Weighs a (Some (booked_entry e)) weight → Weighs a (kind_entry (note_kind note) note) weight
+pub entry_weighs : (a : Basis) (note : List ℕ) (e : SentEntry) (weight : List ℕ) → Says note (Entry e) → Weighs a (Some (booked_entry e)) weight → Weighs a (kind_entry (note_kind note) note) weight
 entry_weighs a note e weight (inl says) weighs = rw says.0 (subst (λ x. Weighs a (Some (booked_entry x)) weight) says.1 weighs)
 entry_weighs a note e weight (inr says) weighs = rw says.0 (subst (λ x. Weighs a (Some (booked_entry x)) weight) says.1 weighs)
 
 -- other notes have none
-pub none_weighs : (a : Account) (bytes : List ℕ) (note : Note) → Says bytes note → ((e : SentEntry) → note ≡ Entry e → ⊥) → Weighs a (kind_entry (note_kind bytes) bytes) []
+pub none_weighs : (a : Basis) (bytes : List ℕ) (note : Note) → Says bytes note → ((e : SentEntry) → note ≡ Entry e → ⊥) → Weighs a (kind_entry (note_kind bytes) bytes) []
 none_weighs a bytes (Building b) says other = rw says.0 refl
 none_weighs a bytes (Factor row) says other = rw says.0 refl
 none_weighs a bytes (Entry e) says other = absurd (other e refl)

@@ -20,7 +20,7 @@ use Rattle.feed.specs.Readings.{Reads}
 use Rattle.feed.specs.Words.{Named, named, building_fields, factor_fields, entry_fields, withdrawal_fields, said_of}
 use Rattle.refusals.specs.declared.refusal.Refusal.{Refusal}
 use Rattle.refusals.specs.Texts.{refusal_said}
-use Rattle.listing.specs.Openings.{Account, unbooked, by}
+use Rattle.listing.specs.Openings.{Basis, unbooked, by}
 
 -- the fields of a note of the kind k
 abbrev pub kind_fields : ℕ → List ℕ → List Named
@@ -56,34 +56,34 @@ pub record Weighed (y : ℕ) (known : Map) (e : Entry) (s : List ℕ) : Type 0 w
   pub books : Books y known e answer
   pub text : s ≡ codes " " ++ outcome_said (Some answer)
 
-abbrev pub Weighs : Account → Option Entry → List ℕ → Type 0
+abbrev pub Weighs : Basis → Option Entry → List ℕ → Type 0
 Weighs a None s = s ≡ []
 Weighs unbooked (Some e) s = s ≡ codes " " ++ outcome_said None
 Weighs (by y known) (Some e) s = Weighed y known e s
 
 -- s is all that is said of a note: what it says, and what it is booked at where it is an entry
-pub record NoteTold (a : Account) (note s : List ℕ) : Type 0 where
+pub record NoteTold (a : Basis) (note s : List ℕ) : Type 0 where
   pub weight : List ℕ
   pub weighs : Weighs a (kind_entry (note_kind note) note) weight
   pub text : s ≡ note_said note ++ weight
 
 -- s is what is said of bytes that are read so: all of their first note, or why they are refused
-abbrev pub Said : Account → List ℕ → Result Note Refusal → List ℕ → Type 0
+abbrev pub Said : Basis → List ℕ → Result Note Refusal → List ℕ → Type 0
 Said a bs (Ok n) s = NoteTold a (first_note bs) s
 Said a bs (Err f) s = RefusedSaid bs f s
 
 -- s is what is said of the bytes
-pub record Tells (a : Account) (bs s : List ℕ) : Type 0 where
+pub record Tells (a : Basis) (bs s : List ℕ) : Type 0 where
   pub answer : Result Note Refusal
   pub read : Reads KindRange Says bs answer
   pub tells : Said a bs answer s
 
 -- the line for the bytes that stand at the place k, after `at` bytes of the feed
-pub record Line (a : Account) (k at : ℕ) (bs line : List ℕ) : Type 0 where
+pub record Line (a : Basis) (k at : ℕ) (bs line : List ℕ) : Type 0 where
   pub said : List ℕ
   pub tells : Tells a bs said
   pub text : line ≡ decimal k ++ (named (codes "at", at) ++ (codes " " ++ (said ++ codes "\n")))
 
 -- the line for a part of a feed
-abbrev pub PartLine : Account → Part → List ℕ → Type 0
+abbrev pub PartLine : Basis → Part → List ℕ → Type 0
 PartLine a p line = Line a p.place p.start (text p) line

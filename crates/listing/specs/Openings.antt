@@ -20,14 +20,14 @@ pub data Begins (feed : List ℕ) : Option Building → List FactorRow → Type 
   building : {rows : List FactorRow} {notes : List (List ℕ)} {left : List ℕ} (b : Building) → ReadsBuilding feed (Ok b) → RowNotes (after_first feed) notes left → FitRows notes rows → Begins feed (Some b) rows
   no_building : ((b : Building) → ReadsBuilding feed (Ok b) → ⊥) → Begins feed None []
 
--- what entries are booked by: the building's life in years and the factors, if there is a building
-pub data Account : Type 0 where
-  unbooked : Account
-  by : (y : ℕ) (known : Map) → Account
+-- the basis on which entries are booked: the building's life in years and the factors, if there is a building
+pub data Basis : Type 0 where
+  unbooked : Basis
+  by : (y : ℕ) (known : Map) → Basis
 
-abbrev pub account_with : Option Building → List FactorRow → Account
-account_with None rows = unbooked
-account_with (Some b) rows = by b.life (project_map rows)
+abbrev pub basis_with : Option Building → List FactorRow → Basis
+basis_with None rows = unbooked
+basis_with (Some b) rows = by b.life (project_map rows)
 
-abbrev pub account_of : Opening → Account
-account_of o = account_with o.building (vec_items o.rows)
+abbrev pub basis_of : Opening → Basis
+basis_of o = basis_with o.building (vec_items o.rows)

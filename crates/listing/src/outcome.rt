@@ -1,7 +1,7 @@
 // What an entry is booked at.
 ghost use Rattle.std.specs.Prelude.{Some, ◌++◌, codes};
 ghost use Rattle.listing.specs.Lines.{Weighs, outcome_said};
-ghost use Rattle.listing.specs.Openings.{account_of};
+ghost use Rattle.listing.specs.Openings.{basis_of};
 
 use crate::opening::Opening;
 use booking::{Entry, Line, book};
@@ -15,7 +15,7 @@ pub(crate) struct Outcome(Option<Result<Line, Refusal>>);
 
 impl Opening {
     pub(crate) fn book(&self, entry: &Entry) -> Outcome
-        ensures { Weighs (account_of self.now) (Some entry.now) (codes " " ++ outcome_said result.0) }
+        ensures { Weighs (basis_of self.now) (Some entry.now) (codes " " ++ outcome_said result.0) }
     {
         let Some(building) = &self.building else {
             return Outcome(None);
