@@ -4,13 +4,11 @@ use Rattle.std.specs.Fmt.{signed_decimal}
 use Rattle.feed.specs.declared.note.Note.{Note}
 use Rattle.refusals.specs.declared.refusal.Refusal.{Refusal}
 use Rattle.booking.specs.declared.entry.Entry.{Entry}
-use Rattle.booking.specs.declared.line.Line.{Line as Booking}
-use Rattle.booking.specs.Booked.{Booked, Books, line_numbers}
+use Rattle.booking.specs.Booked.{Booked as BookedLine}
 use Rattle.booking.specs.Rows.{subtracted}
 use Rattle.booking.specs.Weights.{signed_grams}
 use Rattle.booking.proofs.Single.{books_once, same_codes}
 use Rattle.booking.specs.Entries.{kind_entry}
-use Rattle.factors.specs.Maps.{Map}
 use Rattle.feed.specs.Frames.{Framed, first_note, note_kind}
 use Rattle.feed.specs.Notes.{Says}
 use Rattle.codes.specs.Ranges.{KindRange}
@@ -22,7 +20,9 @@ use Rattle.refusals.specs.Texts.{refusal_said}
 use Rattle.refusals.proofs.Numbers.{no_codes, same_words}
 use Rattle.refusals.proofs.Deciding.{Same, decided_only, broken_up_to}
 use Rattle.feed.proofs.Framing.{framed_front, framed_or_not, front_only}
-use Rattle.listing.specs.Lines.{note_said, RefusedSaid, outcome_said, Weighs, NoteTold, Said, Tells, Line}
+use Rattle.listing.specs.declared.outcome.Outcome.{Outcome}
+use Rattle.listing.specs.declared.outcome.Outcome.TheVariants.{Booked, Refused, Unbooked}
+use Rattle.listing.specs.Lines.{note_said, RefusedSaid, IsOutcome, outcome_said, Weighs, NoteTold, Said, Tells, Line}
 use Rattle.listing.specs.Openings.{Basis, unbooked, by, basis_with}
 use Rattle.listing.specs.Listings.{LastLine, Lists, note, last, Listing}
 use Rattle.listing.proofs.Begun.{basis_only}
@@ -40,20 +40,23 @@ refused_only bs f g s t same a b =
     (framed_or_not bs)
 
 -- what is said of a line, by its numbers
-line_said : Booked → List ℕ
+line_said : BookedLine → List ℕ
 line_said b = codes "thousandths=" ++ (decimal b.thousandths ++ (codes " grams=" ++ signed_decimal (signed_grams (subtracted b.row) b.grams)))
 
-outcome_only : (y : ℕ) (known : Map) (e : Entry) (p q : Result Booking Refusal) → Books y known e p → Books y known e q → Same (λ l m. line_numbers l ≡ line_numbers m) p q → outcome_said (Some p) ≡ outcome_said (Some q)
+outcome_only : (a : Basis) (e : Entry) (o p : Outcome) → IsOutcome a e o → IsOutcome a e p → outcome_said o ≡ outcome_said p
 unfolding line_said
-outcome_only y known e (Ok l) (Ok m) a b same = ap line_said same
-outcome_only y known e (Ok l) (Err g) a b same = absurd same
-outcome_only y known e (Err f) (Ok m) a b same = absurd same
-outcome_only y known e (Err f) (Err g) a b same = same_words f g same (same_codes y known e f g same a b)
+outcome_only unbooked e o p is is' = ap outcome_said (is ∙ sym is')
+outcome_only (by y known) e (Booked l) (Booked m) is is' = ap line_said (books_once y known e (Ok l) (Ok m) is is')
+outcome_only (by y known) e (Booked l) (Refused g) is is' = absurd (books_once y known e (Ok l) (Err g) is is')
+outcome_only (by y known) e (Booked l) Unbooked is is' = absurd is'
+outcome_only (by y known) e (Refused f) (Booked m) is is' = absurd (books_once y known e (Err f) (Ok m) is is')
+outcome_only (by y known) e (Refused f) (Refused g) is is' = let same = books_once y known e (Err f) (Err g) is is' in same_words f g same (same_codes y known e f g same is is')
+outcome_only (by y known) e (Refused f) Unbooked is is' = absurd is'
+outcome_only (by y known) e Unbooked p is is' = absurd is
 
 weighs_only : (a : Basis) (e : Option Entry) (s t : List ℕ) → Weighs a e s → Weighs a e t → s ≡ t
 weighs_only a None s t w v = w ∙ sym v
-weighs_only unbooked (Some e) s t w v = w ∙ sym v
-weighs_only (by y known) (Some e) s t w v = w.text ∙ ap (λ o. codes " " ++ o) (outcome_only y known e w.answer v.answer w.books v.books (books_once y known e w.answer v.answer w.books v.books)) ∙ sym v.text
+weighs_only a (Some e) s t w v = w.text ∙ ap (λ o. codes " " ++ o) (outcome_only a e w.outcome v.outcome w.books v.books) ∙ sym v.text
 
 note_only : (a : Basis) (n s t : List ℕ) → NoteTold a n s → NoteTold a n t → s ≡ t
 note_only a n s t p q = p.text ∙ ap (λ w. note_said n ++ w) (weighs_only a (kind_entry (note_kind n) n) _ _ p.weighs q.weighs) ∙ sym q.text

@@ -1,13 +1,11 @@
 -- The lines of a listing. Assumes nothing.
 use Rattle.std.specs.Prelude.{◌≡◌, ℕ, List, [], ◌∷◌, ◌++◌, length, Some, None, Ok, Err, codes, decimal, Option, Result, slice_index_or}
 use Rattle.booking.specs.declared.entry.Entry.{Entry}
-use Rattle.booking.specs.declared.line.Line.{Line as Booking}
 use Rattle.booking.specs.Booked.{Books}
 use Rattle.booking.specs.Entries.{kind_entry}
 use Rattle.booking.specs.Lines.{line_said}
 use Rattle.codes.specs.Ranges.{KindRange}
 use Rattle.codes.specs.Words.{kind_word}
-use Rattle.factors.specs.Maps.{Map}
 use Rattle.feed.specs.declared.note.Note.{Note}
 use Rattle.feed.specs.declared.reader.Part.{Part}
 use Rattle.feed.specs.Buildings.{building_numbers}
@@ -20,6 +18,8 @@ use Rattle.feed.specs.Readings.{Reads}
 use Rattle.feed.specs.Words.{Named, named, building_fields, factor_fields, entry_fields, withdrawal_fields, said_of}
 use Rattle.refusals.specs.declared.refusal.Refusal.{Refusal}
 use Rattle.refusals.specs.Texts.{refusal_said}
+use Rattle.listing.specs.declared.outcome.Outcome.{Outcome}
+use Rattle.listing.specs.declared.outcome.Outcome.TheVariants.{Booked, Refused, Unbooked}
 use Rattle.listing.specs.Openings.{Basis, unbooked, by}
 
 -- the fields of a note of the kind k
@@ -44,22 +44,27 @@ pub record RefusedSaid (bs : List ℕ) (f : Refusal) (s : List ℕ) : Type 0 whe
   pub note : Framed bs → s ≡ note_refused (note_kind (first_note bs)) (length (first_note bs)) f
   pub unframed : (Framed bs → ⊥) → s ≡ bytes_refused (length bs) f
 
--- what is said of what an entry is booked at: its line, or why it is refused; without a building it is not booked
-abbrev pub outcome_said : Option (Result Booking Refusal) → List ℕ
-outcome_said (Some (Ok line)) = line_said line
-outcome_said (Some (Err f)) = refusal_said f
-outcome_said None = codes "unbooked"
+-- o is what an entry is booked at: its line, or why it is refused; without a building it is not booked
+abbrev pub IsOutcome : Basis → Entry → Outcome → Type 0
+IsOutcome unbooked e o = o ≡ Unbooked
+IsOutcome (by y known) e (Booked line) = Books y known e (Ok line)
+IsOutcome (by y known) e (Refused f) = Books y known e (Err f)
+IsOutcome (by y known) e Unbooked = ⊥
+
+abbrev pub outcome_said : Outcome → List ℕ
+outcome_said (Booked line) = line_said line
+outcome_said (Refused f) = refusal_said f
+outcome_said Unbooked = codes "unbooked"
 
 -- s is what is said of what an entry is booked at
-pub record Weighed (y : ℕ) (known : Map) (e : Entry) (s : List ℕ) : Type 0 where
-  pub answer : Result Booking Refusal
-  pub books : Books y known e answer
-  pub text : s ≡ codes " " ++ outcome_said (Some answer)
+pub record Weighed (a : Basis) (e : Entry) (s : List ℕ) : Type 0 where
+  pub outcome : Outcome
+  pub books : IsOutcome a e outcome
+  pub text : s ≡ codes " " ++ outcome_said outcome
 
 abbrev pub Weighs : Basis → Option Entry → List ℕ → Type 0
 Weighs a None s = s ≡ []
-Weighs unbooked (Some e) s = s ≡ codes " " ++ outcome_said None
-Weighs (by y known) (Some e) s = Weighed y known e s
+Weighs a (Some e) s = Weighed a e s
 
 -- s is all that is said of a note: what it says, and what it is booked at where it is an entry
 pub record NoteTold (a : Basis) (note s : List ℕ) : Type 0 where

@@ -1,4 +1,4 @@
-use Rattle.std.proofs.Common.{[], ◌++◌, codes, subst, append-nil, rules}
+use Rattle.std.proofs.Common.{[], ◌++◌, codes, subst, append-nil, refl, rules}
 use Rattle.feed.specs.declared.note.Note.TheVariants.{Entry}
 use Rattle.feed.specs.Frames.{first_note}
 use Rattle.feed.specs.Words.{words}
@@ -12,7 +12,7 @@ returns-in-Ok-Entry c =
     let bs = c.args.bytes.now in
     let basis = basis_of c.args.opening.now in
     let reads = rw c.in-Ok-Entry.field-0-is at c.in-Ok-Entry.ensures.value in
-    tells_note basis bs (Entry c.in-Ok-Entry.entry) (codes " " ++ outcome_said c.book.result.0) reads (entry_weighs basis (first_note bs) c.in-Ok-Entry.entry _ reads.1 (rw c.into.ensures at c.book.ensures))
+    tells_note basis bs (Entry c.in-Ok-Entry.entry) (codes " " ++ outcome_said c.book.result) reads (entry_weighs basis (first_note bs) c.in-Ok-Entry.entry _ reads.1 (record { outcome = c.book.result; books = rw c.into.ensures at c.book.ensures; text = refl }))
 
 pub returns-in-Ok : goal.returns-in-Ok
 returns-in-Ok c =
