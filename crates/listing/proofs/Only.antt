@@ -8,7 +8,7 @@ use Rattle.booking.specs.Booked.{Booked as BookedLine}
 use Rattle.booking.specs.Rows.{subtracted}
 use Rattle.booking.specs.Weights.{signed_grams}
 use Rattle.booking.proofs.Single.{books_once, same_codes}
-use Rattle.booking.specs.Entries.{kind_entry}
+use Rattle.listing.proofs.Texts.{says_one}
 use Rattle.feed.specs.Frames.{Framed, first_note, note_kind}
 use Rattle.feed.specs.Notes.{Says}
 use Rattle.codes.specs.Ranges.{KindRange}
@@ -22,7 +22,7 @@ use Rattle.refusals.proofs.Deciding.{Same, decided_only, broken_up_to}
 use Rattle.feed.proofs.Framing.{framed_front, framed_or_not, front_only}
 use Rattle.listing.specs.declared.outcome.Outcome.{Outcome}
 use Rattle.listing.specs.declared.outcome.Outcome.TheVariants.{Booked, Refused, Unbooked}
-use Rattle.listing.specs.Lines.{note_said, RefusedSaid, IsOutcome, outcome_said, Weighs, NoteTold, Said, Tells, Line}
+use Rattle.listing.specs.Lines.{entry_of, RefusedSaid, IsOutcome, outcome_said, Weighs, NoteTold, Said, Tells, Line}
 use Rattle.listing.specs.Openings.{Basis, unbooked, by, basis_with}
 use Rattle.listing.specs.Listings.{LastLine, Lists, note, last, Listing}
 use Rattle.listing.proofs.Begun.{basis_only}
@@ -58,12 +58,15 @@ weighs_only : (a : Basis) (e : Option Entry) (s t : List ℕ) → Weighs a e s �
 weighs_only a None s t w v = w ∙ sym v
 weighs_only a (Some e) s t w v = w.text ∙ ap (λ o. codes " " ++ o) (outcome_only a e w.outcome v.outcome w.books v.books) ∙ sym v.text
 
-note_only : (a : Basis) (n s t : List ℕ) → NoteTold a n s → NoteTold a n t → s ≡ t
-note_only a n s t p q = p.text ∙ ap (λ w. note_said n ++ w) (weighs_only a (kind_entry (note_kind n) n) _ _ p.weighs q.weighs) ∙ sym q.text
+note_only : (a : Basis) (bytes : List ℕ) (m n : Note) (s t : List ℕ) → Says bytes m → Says bytes n → NoteTold a m s → NoteTold a n t → s ≡ t
+note_only a bytes m n s t says says' p q =
+    let one = says_one bytes m n says says' in
+    let weight = weighs_only a (entry_of m) p.weight q.weight p.weighs (subst (λ e. Weighs a e q.weight) (sym one.1) q.weighs) in
+    p.text ∙ (λ i. one.0 i ++ weight i) ∙ sym q.text
 
 -- what is said of bytes depends on them alone
 said_only : (a : Basis) (bs s t : List ℕ) (p q : Result Note Refusal) → Reads KindRange Says bs p → Reads KindRange Says bs q → Same (λ m n. Unit {0}) p q → Said a bs p s → Said a bs q t → s ≡ t
-said_only a bs s t (Ok m) (Ok n) reads reads' same said said' = note_only a (first_note bs) s t said said'
+said_only a bs s t (Ok m) (Ok n) reads reads' same said said' = note_only a (first_note bs) m n s t reads.1 reads'.1 said said'
 said_only a bs s t (Ok m) (Err g) reads reads' same said said' = absurd same
 said_only a bs s t (Err f) (Ok n) reads reads' same said said' = absurd same
 said_only a bs s t (Err f) (Err g) reads reads' same said said' =
