@@ -1,14 +1,14 @@
 -- A booking has one answer. Assumes nothing.
-use Rattle.std.proofs.Common.{◌≡◌, ℕ, [], ◌∷◌, Ok, Err, sym, ap, ◌∙◌, ⊎_elim, arith}
+use Rattle.std.proofs.Common.{◌≡◌, ℕ, [], ◌∷◌, Err, Result, sym, ap, ◌∙◌, ⊎_elim, arith}
 use Rattle.std.proofs.str.Laws.{order}
 use Rattle.factors.specs.Maps.{Answer, Map, has, lacks}
 use Rattle.refusals.specs.declared.refusal.Refusal.{Refusal}
 use Rattle.refusals.specs.Refusals.{refusal_number, refusal_codes}
-use Rattle.refusals.proofs.Deciding.{least_only, unbroken}
+use Rattle.refusals.proofs.Deciding.{Same, decided_only}
 use Rattle.refusals.proofs.Numbers.{no_codes}
 use Rattle.booking.specs.declared.entry.Entry.{Entry}
 use Rattle.booking.specs.declared.line.Line.{Line}
-use Rattle.booking.specs.Booked.{Names, line_numbers, content, factor, Books}
+use Rattle.booking.specs.Booked.{Names, line_numbers, content, factor, booked, Books}
 
 lacking_code : Answer → ℕ
 lacking_code (has amount unit) = 0
@@ -32,13 +32,9 @@ codes_only c answer f g same p q =
     (order (refusal_number f) 8)
 
 module _ (y : ℕ) (known : Map) (e : Entry) where
-  pub one_line : (l m : Line) → Books y known e (Ok l) → Books y known e (Ok m) → line_numbers l ≡ line_numbers m
-  one_line l m a b = a.0.1 ∙ sym b.0.1
+  pub books_once : (p q : Result Line Refusal) → Books y known e p → Books y known e q → Same (λ l m. line_numbers l ≡ line_numbers m) p q
+  books_once p q a b =
+      decided_only (content y known e) (λ l. line_numbers l ≡ booked y known e) (λ m. line_numbers m ≡ booked y known e) (λ l m. line_numbers l ≡ line_numbers m) (λ l m is is'. is ∙ sym is') p q a.0 b.0
 
-  pub one_refusal : (f g : Refusal) → Books y known e (Err f) → Books y known e (Err g) → (refusal_number f ≡ refusal_number g) × (refusal_codes f ≡ refusal_codes g)
-  one_refusal f g a b =
-      let same = least_only (content y known e) (refusal_number f) (refusal_number g) a.0 b.0 in
-      (same, codes_only e.head.code (factor y known e) f g same a.1 b.1)
-
-  pub not_both : (l : Line) (f : Refusal) → Books y known e (Ok l) → Books y known e (Err f) → ⊥
-  not_both l f a b = unbroken (content y known e) a.0.0 (refusal_number f) b.0.0
+  pub same_codes : (f g : Refusal) → refusal_number f ≡ refusal_number g → Books y known e (Err f) → Books y known e (Err g) → refusal_codes f ≡ refusal_codes g
+  same_codes f g same a b = codes_only e.head.code (factor y known e) f g same a.1 b.1

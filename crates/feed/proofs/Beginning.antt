@@ -1,19 +1,24 @@
 -- What bytes begin with: their first note, which is read or refused, and what is left after it. Assumes nothing.
-use Rattle.std.proofs.Common.{◌≡◌, ℕ, List, ◌++◌, length, drop, Some, None, Ok, Err, sym, ap, ◌∙◌, subst, arith}
+use Rattle.std.proofs.Common.{◌≡◌, ℕ, List, length, Some, None, Ok, Err, Result, sym, ap, ◌∙◌, subst, arith}
+use Rattle.feed.specs.declared.building.Building.{Building}
+use Rattle.feed.specs.declared.factor.FactorRow.{FactorRow}
 use Rattle.feed.specs.declared.reader.Part.{Part}
 use Rattle.feed.specs.declared.reader.Reader.{Reader}
-use Rattle.feed.specs.Feeds.{Answer, text, left_of, Opened, Hands, Answered}
-use Rattle.feed.specs.Frames.{Framed, OneNote, RowFirst, first_note, note_kind}
-use Rattle.feed.specs.Readings.{Reads, readable}
-use Rattle.feed.proofs.Framing.{one_first, first_one, first_whole, framed_one, framed_front, front_only}
-use Rattle.feed.proofs.Running.{hands_next, hands_note}
+use Rattle.feed.specs.Buildings.{IsBuilding, numbers_of}
+use Rattle.feed.specs.Factors.{IsFactorRow}
+use Rattle.feed.specs.Feeds.{Answer, left_of, Opened, Hands, Answered}
+use Rattle.feed.specs.Frames.{Framed, first_note, after_first}
+use Rattle.feed.specs.Readings.{ReadsBuilding, ReadsFactorRow, readable}
+use Rattle.feed.proofs.Running.{hands_left}
 use Rattle.refusals.specs.declared.refusal.Refusal.{Refusal}
-use Rattle.refusals.specs.Refusals.{refusal_number}
-use Rattle.refusals.proofs.Deciding.{unbroken}
+use Rattle.refusals.proofs.Deciding.{Same, decided_only}
 
--- a first note is read or refused, and not both
-pub not_both : {X : Type 0} (Wanted : ℕ → Type 0) (Value : List ℕ → X → Type 0) (bs : List ℕ) (x : X) (f : Refusal) → Reads Wanted Value bs (Ok x) → Reads Wanted Value bs (Err f) → ⊥
-not_both Wanted Value bs x f a b = unbroken (readable Wanted bs) a.0 (refusal_number f) b.0
+-- reading a building has one answer, and so has reading a factor row
+pub building_once : (bs : List ℕ) (r s : Result Building Refusal) → ReadsBuilding bs r → ReadsBuilding bs s → Same (λ b c. numbers_of b ≡ numbers_of c) r s
+building_once bs = decided_only (readable (λ k. k ≡ 1) bs) (IsBuilding (first_note bs)) (IsBuilding (first_note bs)) (λ b c. numbers_of b ≡ numbers_of c) (λ b c is is'. is ∙ sym is')
+
+pub row_once : (bs : List ℕ) (r s : Result FactorRow Refusal) → ReadsFactorRow bs r → ReadsFactorRow bs s → Same ◌≡◌ r s
+row_once bs = decided_only (readable (λ k. k ≡ 2) bs) (IsFactorRow (first_note bs)) (IsFactorRow (first_note bs)) ◌≡◌ (λ a b is is'. is ∙ sym is')
 
 -- where what is left begins with a note, a reader hands it out
 pub handed : (r : Reader) (a : Answer) (t : Reader) → Answered r a t → Framed (left_of r) → (p : Part) × Hands r p t
@@ -21,26 +26,9 @@ handed r (Ok (Some p)) t step framed = (p, step)
 handed r (Ok None) t step framed = let e = ap length step.0 in absurd (omega (arith, framed.head))
 handed r (Err f) t step framed = absurd (step.0.1 framed)
 
--- after the first call of a reader over a feed that has a first note, the rest is left
-pub rest_left : (feed : List ℕ) (r : Reader) (a : Answer) (t : Reader) → Opened feed r → Answered r a t → Framed feed → (n : List ℕ) × OneNote n × (feed ≡ n ++ left_of t)
-rest_left feed r a t start step framed =
+-- after the first call of a reader over a feed that has a first note, what comes after that note is left
+pub first_passed : (feed : List ℕ) (r : Reader) (a : Answer) (t : Reader) → Opened feed r → Answered r a t → Framed feed → left_of t ≡ after_first feed
+first_passed feed r a t start step framed =
     let all : left_of r ≡ feed = rw (start.bytes, start.over) in
     let hands = handed r a t step (subst Framed (sym all) framed) in
-    (text hands.0, hands_note r hands.0 t hands.1, sym all ∙ sym (hands_next r hands.0 t hands.1))
-
--- the first note of bytes that begin with a note
-pub first_front : (n rest bs : List ℕ) → OneNote n → bs ≡ n ++ rest → first_note bs ≡ n
-first_front n rest bs one cut =
-    let framed = subst Framed (sym cut) (framed_front n rest one) in
-    (front_only (first_note bs) (drop (length (first_note bs)) bs) n rest (one_first bs framed) one (first_whole bs framed ∙ cut)).0
-
--- bytes begin with a factor row where their first note is one
-pub row_front : (n rest bs : List ℕ) → OneNote n → bs ≡ n ++ rest → RowFirst n → RowFirst bs
-row_front n rest bs one cut first =
-    (subst Framed (sym cut) (framed_front n rest one), ap note_kind (first_front n rest bs one cut ∙ sym (first_one n one)) ∙ first.1)
-
--- and then their first note is one
-pub row_alone : (bs : List ℕ) → RowFirst bs → RowFirst (first_note bs)
-row_alone bs first =
-    let one = one_first bs first.0 in
-    (framed_one (first_note bs) one, ap note_kind (first_one (first_note bs) one) ∙ first.1)
+    hands_left r hands.0 t hands.1 ∙ ap after_first all

@@ -3,3 +3,4 @@ pub mod Reading
 pub mod Running
 pub mod Ending
 pub mod Beginning
+pub mod Rows

@@ -7,15 +7,16 @@ use Rattle.feed.specs.declared.reader.Part.{Part}
 use Rattle.feed.specs.declared.reader.Reader.{Reader}
 use Rattle.refusals.proofs.Numbers.{number_one}
 use Rattle.feed.specs.Feeds.{Answer, text, left_of, Hands, Stays, Spent, Answered, ReaderRun, opened, called, parts, Placed, Again, Ends, LawfulReader}
-use Rattle.feed.specs.Frames.{Framed, OneNote}
+use Rattle.feed.specs.Frames.{Framed, OneNote, after_first}
 use Rattle.feed.proofs.Framing.{one_first, first_whole}
+
+-- after a note is handed out, what comes after it is left
+pub hands_left : (r : Reader) (p : Part) (t : Reader) → Hands r p t → left_of t ≡ after_first (left_of r)
+hands_left r p t step = rw (step.bytes, step.over) (sym (drop-drop (length (text p)) r.start r.feed.now) ∙ ap (λ note. drop (length note) (left_of r)) step.note)
 
 -- the note that is handed out is what comes next in the feed
 pub hands_next : (r : Reader) (p : Part) (t : Reader) → Hands r p t → text p ++ left_of t ≡ left_of r
-hands_next r p t step =
-    let rest = left_of r in
-    let after : left_of t ≡ drop (length (text p)) rest = rw (step.bytes, step.over) (sym (drop-drop (length (text p)) r.start r.feed.now)) in
-    rw (after, step.note) (first_whole rest step.framed)
+hands_next r p t step = rw (hands_left r p t step, step.note) (first_whole (left_of r) step.framed)
 
 pub hands_note : (r : Reader) (p : Part) (t : Reader) → Hands r p t → OneNote (text p)
 hands_note r p t step = subst OneNote (sym step.note) (one_first (left_of r) step.framed)

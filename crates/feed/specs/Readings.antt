@@ -2,8 +2,10 @@
 use Rattle.std.specs.Prelude.{◌≡◌, ℕ, List, [], ◌∷◌, ◌++◌, length, Result}
 use Rattle.refusals.specs.declared.refusal.Refusal.{Refusal}
 use Rattle.refusals.specs.declared.refusal.Refusal.TheVariants.{Unframed, UnwantedKind, WrongLength, OutOfRange}
-use Rattle.feed.specs.Buildings.{building_numbers, BuildingInRange}
-use Rattle.feed.specs.Factors.{factor_row, FactorInRange}
+use Rattle.feed.specs.declared.building.Building.{Building}
+use Rattle.feed.specs.declared.factor.FactorRow.{FactorRow}
+use Rattle.feed.specs.Buildings.{building_numbers, BuildingInRange, IsBuilding}
+use Rattle.feed.specs.Factors.{factor_row, FactorInRange, IsFactorRow}
 use Rattle.codes.specs.Codes.{note_length}
 use Rattle.feed.specs.Frames.{Framed, first_note, note_kind}
 use Rattle.refusals.specs.Refusals.{refusal_number, Conditions, Decided}
@@ -31,3 +33,11 @@ readable Wanted bs = framing bs ++ (shape Wanted (first_note bs) ++ ranges (firs
 -- r is what reading the first note of bs answers; Value says which value a note gives
 abbrev pub Reads : {X : Type 0} → (ℕ → Type 0) → (List ℕ → X → Type 0) → List ℕ → Result X Refusal → Type 0
 Reads Wanted Value bs r = Decided (readable Wanted bs) (Value (first_note bs)) r
+
+-- r is what reading a building from bytes answers
+abbrev pub ReadsBuilding : List ℕ → Result Building Refusal → Type 0
+ReadsBuilding bs r = Reads (λ k. k ≡ 1) IsBuilding bs r
+
+-- r is what reading a factor row from bytes answers
+abbrev pub ReadsFactorRow : List ℕ → Result FactorRow Refusal → Type 0
+ReadsFactorRow bs r = Reads (λ k. k ≡ 2) IsFactorRow bs r

@@ -48,14 +48,13 @@ pub struct BuildingNumbers {
 }
 
 impl Building {
-    ghost use Rattle.feed.specs.Buildings.{IsBuilding};
     ghost use Rattle.feed.specs.Frames.{Framed, first_note};
-    ghost use Rattle.feed.specs.Readings.{Reads};
+    ghost use Rattle.feed.specs.Readings.{ReadsBuilding};
 
     // The building that the bytes begin with.
     pub fn read(bytes: &[u8]) -> Result<Building, Refusal>
-        ensures value { Reads (λ k. k ≡ 1) IsBuilding bytes.now result }
-        ensures alone { Framed bytes.now → Reads (λ k. k ≡ 1) IsBuilding (first_note bytes.now) result }
+        ensures value { ReadsBuilding bytes.now result }
+        ensures alone { Framed bytes.now → ReadsBuilding (first_note bytes.now) result }
     {
         read(bytes)
     }

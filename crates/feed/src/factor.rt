@@ -28,12 +28,12 @@ pub struct FactorRow {
 }
 
 impl FactorRow {
-    ghost use Rattle.feed.specs.Factors.{factor_row, IsFactorRow};
+    ghost use Rattle.feed.specs.Factors.{factor_row};
     ghost use Rattle.feed.specs.Frames.{Framed, RowFirst, first_note};
-    ghost use Rattle.feed.specs.Readings.{Reads};
+    ghost use Rattle.feed.specs.Readings.{ReadsFactorRow};
 
     // Whether the bytes begin with a note of this kind.
-    pub fn is_next(bytes: &[u8]) -> bool
+    pub(crate) fn is_next(bytes: &[u8]) -> bool
         ensures { MatchBool result (RowFirst bytes.now) (RowFirst bytes.now → ⊥) }
     {
         Head::read(bytes).is_ok_and(|head| head.kind == u16::from(Kind::Factor))
@@ -41,8 +41,8 @@ impl FactorRow {
 
     // The factor row that the bytes begin with. One that is read is in range.
     pub fn read(bytes: &[u8]) -> Result<FactorRow, Refusal>
-        ensures value { Reads (λ k. k ≡ 2) IsFactorRow bytes.now result }
-        ensures alone { Framed bytes.now → Reads (λ k. k ≡ 2) IsFactorRow (first_note bytes.now) result }
+        ensures value { ReadsFactorRow bytes.now result }
+        ensures alone { Framed bytes.now → ReadsFactorRow (first_note bytes.now) result }
     {
         read(bytes)
     }

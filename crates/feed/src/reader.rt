@@ -1,6 +1,7 @@
 // The notes of a feed, one after the other.
 ghost use Rattle.std.specs.Prelude.{ℕ, ◌≤◌, List, ◌∷◌, length};
 
+use crate::factor::FactorRow;
 use crate::frame::first_note;
 use refusals::Refusal;
 
@@ -27,7 +28,7 @@ pub struct Reader<'a> {
 }
 
 impl<'a> Reader<'a> {
-    ghost use Rattle.feed.specs.Feeds.{Opened, Answer, Answered, ReaderRun, LawfulReader, left_of, IsLeft};
+    ghost use Rattle.feed.specs.Feeds.{Opened, Answer, Answered, HandsRow, ReaderRun, LawfulReader, left_of, IsLeft};
 
     pub fn new(feed: &'a [u8]) -> Reader<'a>
         ensures { Opened feed.now result }
@@ -53,6 +54,17 @@ impl<'a> Reader<'a> {
         self.start += bytes.len();
         self.handed += 1;
         Ok(Some(Part { bytes, ..left }))
+    }
+
+    // The next note, if it is of the kind of factor rows; else none, and the reader stays.
+    pub fn next_row(&mut self) -> Option<Part<'a>>
+        ensures { HandsRow self.old result self.new }
+    {
+        if FactorRow::is_next(self.left().bytes) {
+            self.next().ok().flatten()
+        } else {
+            None
+        }
     }
 
     // What is not handed out yet, at the place of the next note.

@@ -5,15 +5,15 @@ use Rattle.feed.specs.declared.reader.Reader.{Reader}
 use Rattle.feed.specs.Feeds.{Answer, text, left_of, Opened, Hands, Answered, IsLeft}
 use Rattle.feed.proofs.Running.{hands_next, hands_note, stays_left, no_note}
 use Rattle.listing.specs.Lines.{Line}
-use Rattle.listing.specs.Openings.{Account}
+use Rattle.listing.specs.Openings.{Basis}
 use Rattle.listing.specs.Listings.{LastLine, Lists, note, last}
 
 -- what the reader has still to read is all that the listing lacks
-pub record Sofar (a : Account) (feed : List ℕ) (r : Reader) (listing : List ℕ) : Type 0 where
+pub record Sofar (a : Basis) (feed : List ℕ) (r : Reader) (listing : List ℕ) : Type 0 where
   pub same : r.feed.now ≡ feed
   pub before : (more : List ℕ) → Lists a (r.handed + 1) r.start (left_of r) more → Lists a 1 0 feed (listing ++ more)
 
-module _ (a : Account) (feed : List ℕ) (r : Reader) (listing : List ℕ) where
+module _ (a : Basis) (feed : List ℕ) (r : Reader) (listing : List ℕ) where
   pub none_yet : Opened feed r → listing ≡ [] → Sofar a feed r listing
   none_yet start empty = record { same = start.over; before = λ more h. rw empty (rw (start.bytes, start.notes, start.over) at h) }
 

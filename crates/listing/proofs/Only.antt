@@ -4,13 +4,11 @@ use Rattle.std.specs.Fmt.{signed_decimal}
 use Rattle.feed.specs.declared.note.Note.{Note}
 use Rattle.refusals.specs.declared.refusal.Refusal.{Refusal}
 use Rattle.booking.specs.declared.entry.Entry.{Entry}
-use Rattle.booking.specs.declared.line.Line.{Line as Booking}
-use Rattle.booking.specs.Booked.{Booked, Books}
+use Rattle.booking.specs.Booked.{Booked as BookedLine}
 use Rattle.booking.specs.Rows.{subtracted}
 use Rattle.booking.specs.Weights.{signed_grams}
-use Rattle.booking.proofs.Single.{one_line, one_refusal, not_both}
-use Rattle.booking.specs.Entries.{kind_entry}
-use Rattle.factors.specs.Maps.{Map}
+use Rattle.booking.proofs.Single.{books_once, same_codes}
+use Rattle.listing.proofs.Texts.{says_one}
 use Rattle.feed.specs.Frames.{Framed, first_note, note_kind}
 use Rattle.feed.specs.Notes.{Says}
 use Rattle.codes.specs.Ranges.{KindRange}
@@ -20,12 +18,14 @@ use Rattle.feed.specs.Words.{named}
 use Rattle.refusals.specs.Refusals.{refusal_number, refusal_codes}
 use Rattle.refusals.specs.Texts.{refusal_said}
 use Rattle.refusals.proofs.Numbers.{no_codes, same_words}
-use Rattle.refusals.proofs.Deciding.{least_only, unbroken, broken_up_to}
+use Rattle.refusals.proofs.Deciding.{Same, decided_only, broken_up_to}
 use Rattle.feed.proofs.Framing.{framed_front, framed_or_not, front_only}
-use Rattle.listing.specs.Lines.{note_said, RefusedSaid, outcome_said, Weighs, NoteTold, Said, Tells, Line}
-use Rattle.listing.specs.Openings.{Account, unbooked, by, account_with}
+use Rattle.listing.specs.declared.outcome.Outcome.{Outcome}
+use Rattle.listing.specs.declared.outcome.Outcome.TheVariants.{Booked, Refused, Unbooked}
+use Rattle.listing.specs.Lines.{entry_of, RefusedSaid, IsOutcome, outcome_said, Weighs, NoteTold, Said, Tells, Line}
+use Rattle.listing.specs.Openings.{Basis, unbooked, by, basis_with}
 use Rattle.listing.specs.Listings.{LastLine, Lists, note, last, Listing}
-use Rattle.listing.proofs.Begun.{account_only}
+use Rattle.listing.proofs.Begun.{basis_only}
 
 -- reading refuses by no number above 4, so its refusals name no codes
 names_none : (bs : List ℕ) (f : Refusal) → Reads {X = Note} KindRange Says bs (Err f) → refusal_codes f ≡ []
@@ -40,46 +40,53 @@ refused_only bs f g s t same a b =
     (framed_or_not bs)
 
 -- what is said of a line, by its numbers
-line_said : Booked → List ℕ
+line_said : BookedLine → List ℕ
 line_said b = codes "thousandths=" ++ (decimal b.thousandths ++ (codes " grams=" ++ signed_decimal (signed_grams (subtracted b.row) b.grams)))
 
-outcome_only : (y : ℕ) (known : Map) (e : Entry) (p q : Result Booking Refusal) → Books y known e p → Books y known e q → outcome_said (Some p) ≡ outcome_said (Some q)
+outcome_only : (a : Basis) (e : Entry) (o p : Outcome) → IsOutcome a e o → IsOutcome a e p → outcome_said o ≡ outcome_said p
 unfolding line_said
-outcome_only y known e (Ok l) (Ok m) a b = ap line_said (one_line y known e l m a b)
-outcome_only y known e (Ok l) (Err g) a b = absurd (not_both y known e l g a b)
-outcome_only y known e (Err f) (Ok m) a b = absurd (not_both y known e m f b a)
-outcome_only y known e (Err f) (Err g) a b = let same = one_refusal y known e f g a b in same_words f g same.0 same.1
+outcome_only unbooked e o p is is' = ap outcome_said (is ∙ sym is')
+outcome_only (by y known) e (Booked l) (Booked m) is is' = ap line_said (books_once y known e (Ok l) (Ok m) is is')
+outcome_only (by y known) e (Booked l) (Refused g) is is' = absurd (books_once y known e (Ok l) (Err g) is is')
+outcome_only (by y known) e (Booked l) Unbooked is is' = absurd is'
+outcome_only (by y known) e (Refused f) (Booked m) is is' = absurd (books_once y known e (Err f) (Ok m) is is')
+outcome_only (by y known) e (Refused f) (Refused g) is is' = let same = books_once y known e (Err f) (Err g) is is' in same_words f g same (same_codes y known e f g same is is')
+outcome_only (by y known) e (Refused f) Unbooked is is' = absurd is'
+outcome_only (by y known) e Unbooked p is is' = absurd is
 
-weighs_only : (a : Account) (e : Option Entry) (s t : List ℕ) → Weighs a e s → Weighs a e t → s ≡ t
+weighs_only : (a : Basis) (e : Option Entry) (s t : List ℕ) → Weighs a e s → Weighs a e t → s ≡ t
 weighs_only a None s t w v = w ∙ sym v
-weighs_only unbooked (Some e) s t w v = w ∙ sym v
-weighs_only (by y known) (Some e) s t w v = w.text ∙ ap (λ o. codes " " ++ o) (outcome_only y known e w.answer v.answer w.books v.books) ∙ sym v.text
+weighs_only a (Some e) s t w v = w.text ∙ ap (λ o. codes " " ++ o) (outcome_only a e w.outcome v.outcome w.books v.books) ∙ sym v.text
 
-note_only : (a : Account) (n s t : List ℕ) → NoteTold a n s → NoteTold a n t → s ≡ t
-note_only a n s t p q = p.text ∙ ap (λ w. note_said n ++ w) (weighs_only a (kind_entry (note_kind n) n) _ _ p.weighs q.weighs) ∙ sym q.text
+note_only : (a : Basis) (bytes : List ℕ) (m n : Note) (s t : List ℕ) → Says bytes m → Says bytes n → NoteTold a m s → NoteTold a n t → s ≡ t
+note_only a bytes m n s t says says' p q =
+    let one = says_one bytes m n says says' in
+    let weight = weighs_only a (entry_of m) p.weight q.weight p.weighs (subst (λ e. Weighs a e q.weight) (sym one.1) q.weighs) in
+    p.text ∙ (λ i. one.0 i ++ weight i) ∙ sym q.text
 
 -- what is said of bytes depends on them alone
-said_only : (a : Account) (bs s t : List ℕ) (p q : Result Note Refusal) → Reads KindRange Says bs p → Reads KindRange Says bs q → Said a bs p s → Said a bs q t → s ≡ t
-said_only a bs s t (Ok m) (Ok n) reads reads' said said' = note_only a (first_note bs) s t said said'
-said_only a bs s t (Ok m) (Err g) reads reads' said said' = absurd (unbroken (readable KindRange bs) reads.0 _ reads'.0)
-said_only a bs s t (Err f) (Ok n) reads reads' said said' = absurd (unbroken (readable KindRange bs) reads'.0 _ reads.0)
-said_only a bs s t (Err f) (Err g) reads reads' said said' =
-    let same = least_only (readable KindRange bs) _ _ reads reads' in
+said_only : (a : Basis) (bs s t : List ℕ) (p q : Result Note Refusal) → Reads KindRange Says bs p → Reads KindRange Says bs q → Same (λ m n. Unit {0}) p q → Said a bs p s → Said a bs q t → s ≡ t
+said_only a bs s t (Ok m) (Ok n) reads reads' same said said' = note_only a (first_note bs) m n s t reads.1 reads'.1 said said'
+said_only a bs s t (Ok m) (Err g) reads reads' same said said' = absurd same
+said_only a bs s t (Err f) (Ok n) reads reads' same said said' = absurd same
+said_only a bs s t (Err f) (Err g) reads reads' same said said' =
     let none = names_none bs f reads ∙ sym (names_none bs g reads') in
     refused_only bs f g s t (same_words f g same none) said said'
 
-tells_only : (a : Account) (bs s t : List ℕ) → Tells a bs s → Tells a bs t → s ≡ t
-tells_only a bs s t x y = said_only a bs s t _ _ x.read y.read x.tells y.tells
+tells_only : (a : Basis) (bs s t : List ℕ) → Tells a bs s → Tells a bs t → s ≡ t
+tells_only a bs s t x y =
+    let same = decided_only (readable KindRange bs) (Says (first_note bs)) (Says (first_note bs)) (λ m n. Unit {0}) (λ m n p q. tt) x.answer y.answer x.read y.read in
+    said_only a bs s t x.answer y.answer x.read y.read same x.tells y.tells
 
-pub line_only : (a : Account) (k at : ℕ) (bs l m : List ℕ) → Line a k at bs l → Line a k at bs m → l ≡ m
+pub line_only : (a : Basis) (k at : ℕ) (bs l m : List ℕ) → Line a k at bs l → Line a k at bs m → l ≡ m
 line_only a k at bs l m x y =
     x.text ∙ ap (λ s. decimal k ++ (named (codes "at", at) ++ (codes " " ++ (s ++ codes "\n")))) (tells_only a bs _ _ x.tells y.tells) ∙ sym y.text
 
-last_only : (a : Account) (k at : ℕ) (bs l m : List ℕ) → LastLine a k at bs l → LastLine a k at bs m → l ≡ m
+last_only : (a : Basis) (k at : ℕ) (bs l m : List ℕ) → LastLine a k at bs l → LastLine a k at bs m → l ≡ m
 last_only a k at [] l m p q = p.none refl ∙ sym (q.none refl)
 last_only a k at (x ∷ bs) l m p q = line_only a k at (x ∷ bs) l m (p.some (omega arith)) (q.some (omega arith))
 
-lists_only : (a : Account) (k at : ℕ) (bs s t : List ℕ) → Lists a k at bs s → Lists a k at bs t → s ≡ t
+lists_only : (a : Basis) (k at : ℕ) (bs s t : List ℕ) → Lists a k at bs s → Lists a k at bs t → s ≡ t
 lists_only a k at bs s t (note n rest l more one cut line rests text) (note n' rest' l' more' one' cut' line' rests' text') =
     let same = front_only n rest n' rest' one one' (sym cut ∙ cut') in
     let line'' = subst (λ b. Line a k at b l') (sym same.0) line' in
@@ -91,5 +98,5 @@ lists_only a k at bs s t (last unframed left) (last unframed' left') = last_only
 
 pub listing_only : (feed s t : List ℕ) → Listing feed s → Listing feed t → s ≡ t
 listing_only feed s t p q =
-    let same = account_only feed p.building q.building p.rows q.rows p.begins q.begins in
-    lists_only (account_with p.building p.rows) 1 0 feed s t p.lists (subst (λ a. Lists a 1 0 feed t) (sym same) q.lists)
+    let same = basis_only feed p.building q.building p.rows q.rows p.begins q.begins in
+    lists_only (basis_with p.building p.rows) 1 0 feed s t p.lists (subst (λ a. Lists a 1 0 feed t) (sym same) q.lists)

@@ -5,15 +5,15 @@ use Rattle.feed.specs.declared.factor.FactorRow.{FactorRow}
 use Rattle.feed.specs.Frames.{Framed, OneNote}
 use Rattle.feed.specs.Words.{named}
 use Rattle.listing.specs.Lines.{Line}
-use Rattle.listing.specs.Openings.{Account, Begins, account_with}
+use Rattle.listing.specs.Openings.{Basis, Begins, basis_with}
 
 -- the line for what is left after the last note: nothing, or bytes of which it says why they are refused
-pub record LastLine (a : Account) (k at : ℕ) (bs line : List ℕ) : Type 0 where
+pub record LastLine (a : Basis) (k at : ℕ) (bs line : List ℕ) : Type 0 where
   pub none : bs ≡ [] → line ≡ codes "end" ++ (named (codes "at", at) ++ codes "\n")
   pub some : 0 < length bs → Line a k at bs line
 
--- the listing, by an account, of the bytes that stand at the place k, after `at` bytes of the feed: a line for each note, and the last line
-pub data Lists (a : Account) : ℕ → ℕ → List ℕ → List ℕ → Type 0 where
+-- the listing, on a basis, of the bytes that stand at the place k, after `at` bytes of the feed: a line for each note, and the last line
+pub data Lists (a : Basis) : ℕ → ℕ → List ℕ → List ℕ → Type 0 where
   note : {k at : ℕ} {bs text : List ℕ} (n rest line more : List ℕ) → OneNote n → bs ≡ n ++ rest → Line a k at n line → Lists a (k + 1) (at + length n) rest more → text ≡ line ++ more → Lists a k at bs text
   last : {k at : ℕ} {bs text : List ℕ} → (Framed bs → ⊥) → LastLine a k at bs text → Lists a k at bs text
 
@@ -22,4 +22,4 @@ pub record Listing (feed text : List ℕ) : Type 0 where
   pub building : Option Building
   pub rows : List FactorRow
   pub begins : Begins feed building rows
-  pub lists : Lists (account_with building rows) 1 0 feed text
+  pub lists : Lists (basis_with building rows) 1 0 feed text

@@ -8,6 +8,6 @@ use Rattle.listing.specs.Lines.{note_refused, bytes_refused, outcome_said}
 
 abbrev pub stated : Statement → List ℕ
 stated (Note note) = words note
-stated (Entry e o) = said_of (entry_kind e.quantity) (entry_fields e) ++ (codes " " ++ outcome_said o.0)
+stated (Entry e o) = said_of (entry_kind e.quantity) (entry_fields e) ++ (codes " " ++ outcome_said o)
 stated (Refused head f) = note_refused head.kind head.length f
 stated (Unframed left f) = bytes_refused left f

@@ -1,7 +1,7 @@
 // One line of a listing.
 ghost use Rattle.std.specs.Prelude.{◌≡◌, ℕ, List, IfOk, string_bytes};
 ghost use Rattle.listing.specs.Lines.{PartLine};
-ghost use Rattle.listing.specs.Openings.{account_of};
+ghost use Rattle.listing.specs.Openings.{basis_of};
 
 use crate::opening::Opening;
 use crate::statement::Statement;
@@ -10,8 +10,8 @@ use std::alloc::{AllocError, Global};
 
 // The line for a part of a feed: what its first note says and is booked at, or by which number it is refused.
 pub fn line(heap: Global, opening: &Opening, part: &Part) -> Result<String, AllocError>
-    ensures value { IfOk result (λ s. PartLine (account_of opening.now) part.now (string_bytes s)) }
-    ensures only { IfOk result (λ s. (other : List ℕ) → PartLine (account_of opening.now) part.now other → other ≡ string_bytes s) }
+    ensures value { IfOk result (λ s. PartLine (basis_of opening.now) part.now (string_bytes s)) }
+    ensures only { IfOk result (λ s. (other : List ℕ) → PartLine (basis_of opening.now) part.now other → other ≡ string_bytes s) }
 {
     let place = part.place;
     let start = part.start;

@@ -1,6 +1,6 @@
 // What a feed begins with: its building and its own factors.
 ghost use Rattle.std.specs.Prelude.{IfOk};
-ghost use Rattle.listing.specs.Openings.{FitRows, Begins};
+ghost use Rattle.listing.specs.Openings.{Begins};
 
 use feed::building::Building;
 use feed::factor::FactorRow;
@@ -15,7 +15,8 @@ pub struct Opening {
 }
 
 impl Opening {
-    // The first note, if it is a building, and the run of factor rows after it; without a building there is no list either.
+    // The first note, if it is a building, and the factor rows after it; without a building there is no list either.
+    #[tactic(auto, using(feed::proofs::Ending::fewer_left))]
     pub fn read(heap: Global, feed: &[u8]) -> Result<Opening, AllocError>
         ensures { IfOk result (λ o. Begins feed.now o.building o.rows.items) }
     {
@@ -28,27 +29,16 @@ impl Opening {
         // Past the first note, which is the building.
         let mut reader = Reader::new(feed);
         let _ = reader.next();
-        let rows = rows(heap, reader.left().bytes)?;
+        let mut rows = Vec::new(heap);
+        while let Some(part) = reader.next_row() {
+            // A row that is refused is passed over.
+            if let Ok(row) = FactorRow::read(part.bytes) {
+                rows.push(row)?;
+            }
+        }
         Ok(Opening {
             building: Some(building),
             rows,
         })
     }
-}
-
-// The run of factor rows that the bytes begin with. One that is refused is passed over.
-fn rows(heap: Global, bytes: &[u8]) -> Result<Vec<FactorRow>, AllocError>
-    ensures { IfOk result (λ v. FitRows bytes.now v.items) }
-{
-    let mut rows = Vec::new(heap);
-    let mut reader = Reader::new(bytes);
-    while let Ok(Some(part)) = reader.next() {
-        if !FactorRow::is_next(part.bytes) {
-            return Ok(rows);
-        }
-        if let Ok(row) = FactorRow::read(part.bytes) {
-            rows.push(row)?;
-        }
-    }
-    Ok(rows)
 }

@@ -1,7 +1,7 @@
 // What an entry is booked at.
-ghost use Rattle.std.specs.Prelude.{Some, ◌++◌, codes};
-ghost use Rattle.listing.specs.Lines.{Weighs, outcome_said};
-ghost use Rattle.listing.specs.Openings.{account_of};
+ghost use Rattle.std.specs.Prelude.{Some};
+ghost use Rattle.listing.specs.Lines.{IsOutcome, outcome_said};
+ghost use Rattle.listing.specs.Openings.{basis_of};
 
 use crate::opening::Opening;
 use booking::{Entry, Line, book};
@@ -9,32 +9,39 @@ use factors::ProjectFactors;
 use refusals::Refusal;
 use std::fmt;
 
-// A line, or why there is none; nothing where there is no building to book for.
 #[derive(Clone, Copy, Debug, PartialEq, Eq)]
-pub(crate) struct Outcome(Option<Result<Line, Refusal>>);
+pub(crate) enum Outcome {
+    Booked(Line),
+    Refused(Refusal),
+    // there is no building to book for
+    Unbooked,
+}
 
 impl Opening {
     pub(crate) fn book(&self, entry: &Entry) -> Outcome
-        ensures { Weighs (account_of self.now) (Some entry.now) (codes " " ++ outcome_said result.0) }
+        ensures { IsOutcome (basis_of self.now) entry.now result }
     {
         let Some(building) = &self.building else {
-            return Outcome(None);
+            return Outcome::Unbooked;
         };
         let source = ProjectFactors {
             rows: self.rows.as_slice(),
         };
-        Outcome(Some(book(building, &source, entry)))
+        match book(building, &source, entry) {
+            Ok(line) => Outcome::Booked(line),
+            Err(refusal) => Outcome::Refused(refusal),
+        }
     }
 }
 
 impl fmt::Display for Outcome {
-    ghost output = { λ o. Some (outcome_said o.0) };
+    ghost output = { λ o. Some (outcome_said o) };
 
     fn fmt<W: fmt::Write>(&self, f: &mut fmt::Formatter<W>) -> fmt::Result {
-        match &self.0 {
-            Some(Ok(line)) => write!(f, "{line}"),
-            Some(Err(refusal)) => write!(f, "{refusal}"),
-            None => f.write_str("unbooked"),
+        match self {
+            Outcome::Booked(line) => write!(f, "{line}"),
+            Outcome::Refused(refusal) => write!(f, "{refusal}"),
+            Outcome::Unbooked => f.write_str("unbooked"),
         }
     }
 }

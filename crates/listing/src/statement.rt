@@ -1,7 +1,7 @@
 // What a line states of the first note of bytes.
 ghost use Rattle.std.specs.Prelude.{Some};
 ghost use Rattle.listing.specs.Lines.{Tells};
-ghost use Rattle.listing.specs.Openings.{account_of};
+ghost use Rattle.listing.specs.Openings.{basis_of};
 ghost use Rattle.listing.specs.Statements.{stated};
 
 use crate::opening::Opening;
@@ -27,7 +27,7 @@ pub(crate) enum Statement {
 
 impl Statement {
     pub(crate) fn of(opening: &Opening, bytes: &[u8]) -> Statement
-        ensures { Tells (account_of opening.now) bytes.now (stated result) }
+        ensures { Tells (basis_of opening.now) bytes.now (stated result) }
     {
         match Note::read(bytes) {
             Ok(Note::Entry(entry)) => Statement::Entry(entry, opening.book(&entry.into())),

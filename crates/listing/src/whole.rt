@@ -1,7 +1,7 @@
 // The listing of a whole feed.
 ghost use Rattle.std.specs.Prelude.{◌≡◌, ℕ, List, IfOk, string_bytes};
 ghost use Rattle.listing.specs.Listings.{LastLine, Listing};
-ghost use Rattle.listing.specs.Openings.{account_of};
+ghost use Rattle.listing.specs.Openings.{basis_of};
 
 use crate::lines::line;
 use crate::opening::Opening;
@@ -28,7 +28,7 @@ pub fn listing(heap: Global, feed: &[u8]) -> Result<String, AllocError>
 // The line for what is left of a feed where no note can be read any more. It takes the heap and the opening as `line` does:
 // a struct for the two would be no plainer.
 fn last_line(heap: Global, opening: &Opening, left: &Part) -> Result<String, AllocError>
-    ensures { IfOk result (λ s. LastLine (account_of opening.now) left.now.place left.now.start left.now.bytes.now (string_bytes s)) }
+    ensures { IfOk result (λ s. LastLine (basis_of opening.now) left.now.place left.now.start left.now.bytes.now (string_bytes s)) }
 {
     if left.bytes.is_empty() {
         let start = left.start;

@@ -2,7 +2,7 @@
 use Rattle.std.proofs.Common.{◌≡◌, ℕ, ◌<◌, ◌≤◌, ◌⊎◌, [], ◌∷◌, ◌++◌, Ok, Err, Result, refl, inl, inr, ⊎_elim, arith}
 use Rattle.std.proofs.str.Laws.{order}
 use Rattle.refusals.specs.declared.refusal.Refusal.{Refusal}
-use Rattle.refusals.specs.Refusals.{Conditions, Kept, Broken, Least, Decided}
+use Rattle.refusals.specs.Refusals.{refusal_number, Conditions, Kept, Broken, Least, Decided}
 
 pub kept_both : (cs ds : Conditions) → Kept cs → Kept ds → Kept (cs ++ ds)
 kept_both [] ds k l = l
@@ -80,6 +80,20 @@ least_past {P} m n cs holds least = least_on ((m, P) ∷ []) cs n (holds, tt) le
 pub least_only : (cs : Conditions) (m n : ℕ) → Least cs m → Least cs n → m ≡ n
 least_only cs m n a b =
     ⊎_elim (λ l. absurd (b.1 m l a.0)) (λ l. ⊎_elim (λ l'. absurd (a.1 n l' b.0)) (λ l'. omega arith) (order n m)) (order m n)
+
+-- two answers are the same: values that R relates, or refusals by one number
+abbrev pub Same : {X : Type 0} → (X → X → Type 0) → Result X Refusal → Result X Refusal → Type 0
+Same R (Ok x) (Ok y) = R x y
+Same R (Ok x) (Err g) = ⊥
+Same R (Err f) (Ok y) = ⊥
+Same R (Err f) (Err g) = refusal_number f ≡ refusal_number g
+
+-- two answers to the same conditions are the same, where R relates a value of which P holds to one of which Q holds
+pub decided_only : {X : Type 0} (cs : Conditions) (P Q : X → Type 0) (R : X → X → Type 0) → ((x y : X) → P x → Q y → R x y) → (r s : Result X Refusal) → Decided cs P r → Decided cs Q s → Same R r s
+decided_only cs P Q R one (Ok x) (Ok y) d e = one x y d.1 e.1
+decided_only cs P Q R one (Ok x) (Err g) d e = unbroken cs d.0 (refusal_number g) e.0
+decided_only cs P Q R one (Err f) (Ok y) d e = unbroken cs e.0 (refusal_number f) d.0
+decided_only cs P Q R one (Err f) (Err g) d e = least_only cs (refusal_number f) (refusal_number g) d e
 
 module _ {X : Type 0} (Q : X → Type 0) (cs ds : Conditions) (kept : Kept cs) where
   pub decided_on : (r : Result X Refusal) → Decided ds Q r → Decided (cs ++ ds) Q r

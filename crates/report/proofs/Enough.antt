@@ -14,8 +14,8 @@ long_only feed other text more more' (denied {f = f} (too_long least) is) =
     let number : refusal_number f ≡ 25 = ⊎_elim (λ e. e.0) (λ b. absurd b) least.0 in
     denied (too_long (subst (Least (sized other)) (sym number) (least_here 25 [] (λ few. omega (arith, few)) tt))) is
 long_only feed other text more more' (denied (no_building short reads) is) = absurd (omega (arith, short.0))
-long_only feed other text more more' (denied (building n rest b short reads one cut rows all) is) = absurd (omega (arith, short.0))
-long_only feed other text more more' (account (building n rest b short reads one cut rows all) a) = absurd (omega (arith, short.0))
+long_only feed other text more more' (denied (building b short reads run takes) is) = absurd (omega (arith, short.0))
+long_only feed other text more more' (account (building b short reads run takes) a) = absurd (omega (arith, short.0))
 
 -- the report of the first bytes, one more than a feed may have, is that of all
 pub enough : (feed text : List ℕ) → Reports (take 65537 feed) text → Reports feed text

@@ -2,16 +2,17 @@
 use Rattle.std.proofs.Common.{◌≡◌, ℕ, ◌+◌, List, [], ◌∷◌, ◌++◌, length, get_or, drop, map, reverse, take, codes, decimal, Ok, Err, Result, sym, refl, ap, ◌∙◌, subst, arith}
 use Rattle.refusals.specs.declared.refusal.Refusal.{Refusal}
 use Rattle.refusals.specs.Refusals.{refusal_number}
-use Rattle.refusals.proofs.Deciding.{least_only, unbroken}
+use Rattle.refusals.proofs.Deciding.{Same, decided_only, least_only, unbroken}
 use Rattle.factors.specs.Maps.{Map}
 use Rattle.feed.specs.declared.building.BuildingNumbers.{BuildingNumbers}
 use Rattle.feed.specs.declared.factor.FactorRow.{FactorRow}
-use Rattle.feed.specs.Buildings.{IsBuilding, numbers_of}
-use Rattle.feed.specs.Frames.{Framed, OneNote}
-use Rattle.feed.specs.Readings.{readable}
-use Rattle.feed.proofs.Beginning.{not_both}
+use Rattle.feed.specs.Buildings.{numbers_of}
+use Rattle.feed.specs.Factors.{IsFactorRow}
+use Rattle.feed.specs.Frames.{Framed, OneNote, first_note, after_first}
+use Rattle.feed.proofs.Beginning.{building_once}
 use Rattle.feed.proofs.Framing.{framed_front, front_only}
-use Rattle.sheet.specs.States.{State, asked, line_sent, Sends}
+use Rattle.feed.proofs.Rows.{rows_only}
+use Rattle.sheet.specs.States.{State, asked, line_sent, with_line, Sends}
 use Rattle.sheet.specs.Placing.{placing}
 use Rattle.sheet.specs.Accounts.{sendings}
 use Rattle.sheet.proofs.Accounting.{bytes_are}
@@ -28,14 +29,8 @@ use Rattle.report.specs.Calls.{said, send_said}
 use Rattle.report.specs.Lines.{denied_line, page_lines, grade_line}
 use Rattle.report.specs.Reports.{Reports, denied, account, LawfulReport}
 use Rattle.report.proofs.Concluding.{concludes}
-use Rattle.report.specs.Projects.{sized, row_asked, Rows, ended, refused, row, with_row, ProjectParts, parts_with, Opens, too_long, no_building, building}
-
--- two answers are the same: both give the same, or both refuse by the same number
-abbrev pub Same : {X : Type 0} → Result X Refusal → Result X Refusal → Type 0
-Same (Ok x) (Ok y) = x ≡ y
-Same (Ok x) (Err g) = ⊥
-Same (Err f) (Ok y) = ⊥
-Same (Err f) (Err g) = refusal_number f ≡ refusal_number g
+use Rattle.report.proofs.Listed.{with_left}
+use Rattle.report.specs.Projects.{sized, row_asked, ReadsRow, ProjectParts, with_row, TakesRows, all, row, refused, Opens, too_long, no_building, building}
 
 -- bytes that begin with a note are not of those that begin with none, and are not empty
 begins : (n rest bs : List ℕ) → OneNote n → bs ≡ n ++ rest → Framed bs
@@ -57,57 +52,42 @@ sends_of_only bs a b (note {more = xs} n rest one cut more) (note {more = ys} n'
     let same = front_only n rest n' rest' one one' (sym cut ∙ cut') in
     (λ i. same.0 i ∷ sends_of_only rest xs ys more (subst (λ m. SendsOf m ys) (sym same.1) more') i)
 
-with_same : (r r' : FactorRow) (a b : Result (List FactorRow × List ℕ) Refusal) → r ≡ r' → Same a b → Same (with_row r a) (with_row r' b)
-with_same r r' (Ok x) (Ok y) is same = (λ i. (is i ∷ (same i).0, (same i).1))
-with_same r r' (Ok x) (Err g) is same = same
-with_same r r' (Err f) (Ok y) is same = same
-with_same r r' (Err f) (Err g) is same = same
+row_once : (n : ℕ) (bs : List ℕ) (r s : Result FactorRow Refusal) → ReadsRow n bs r → ReadsRow n bs s → Same ◌≡◌ r s
+row_once n bs = decided_only (row_asked n bs) (IsFactorRow (first_note bs)) (IsFactorRow (first_note bs)) ◌≡◌ (λ a b is is'. is ∙ sym is')
 
-rows_only : (n : ℕ) (bs : List ℕ) (a b : Result (List FactorRow × List ℕ) Refusal) → Rows n bs a → Rows n bs b → Same a b
-rows_only n bs a b (ended other) (ended other') = refl
-rows_only n bs a b (ended other) (refused first reads) = absurd (other first)
-rows_only n bs a b (ended other) (row m rest r one cut reads more is) = absurd (other (reads.0.0, reads.0.1.0))
-rows_only n bs a b (refused first reads) (ended other) = absurd (other first)
-rows_only n bs a b (refused {f = f} first reads) (refused {f = g} first' reads') = least_only (row_asked n bs) (refusal_number f) (refusal_number g) reads reads'
-rows_only n bs a b (refused {f = f} first reads) (row m rest r one cut reads' more is) = absurd (unbroken (row_asked n bs) reads'.0 (refusal_number f) reads.0)
-rows_only n bs a b (row m rest r one cut reads more is) (ended other) = absurd (other (reads.0.0, reads.0.1.0))
-rows_only n bs a b (row m rest r one cut reads more is) (refused {f = f} first reads') = absurd (unbroken (row_asked n bs) reads.0 (refusal_number f) reads'.0)
-rows_only n bs a b (row {more = xs} m rest r one cut reads more is) (row {more = ys} m' rest' r' one' cut' reads' more' is') =
-    let same = front_only m rest m' rest' one one' (sym cut ∙ cut') in
-    let tail = rows_only (n + 1) rest xs ys more (subst (λ b. Rows (n + 1) b ys) (sym same.1) more') in
-    subst (λ x. Same x b) (sym is) (subst (Same (with_row r xs)) (sym is') (with_same r r' xs ys (reads.1 ∙ sym reads'.1) tail))
+takes_only : (c : ProjectParts) (notes : List (List ℕ)) (a b : Result ProjectParts Refusal) → TakesRows c notes a → TakesRows c notes b → Same ◌≡◌ a b
+takes_only c notes a b all all = refl
+takes_only c notes a b (row {note = n} {notes = ns} x reads more) (row y reads' more') =
+    let same = row_once (length c.rows) n (Ok x) (Ok y) reads reads' in
+    takes_only (with_row c x) ns a b more (subst (λ z. TakesRows (with_row c z) ns b) (sym same) more')
+takes_only c notes a b (row {note = n} x reads more) (refused {f = f} reads') = absurd (row_once (length c.rows) n (Ok x) (Err f) reads reads')
+takes_only c notes a b (refused {note = n} {f = f} reads) (row x reads' more) = absurd (row_once (length c.rows) n (Err f) (Ok x) reads reads')
+takes_only c notes a b (refused {note = n} {f = f} reads) (refused {f = g} reads') = row_once (length c.rows) n (Err f) (Err g) reads reads'
 
-parts_same : (b b' : BuildingNumbers) (x y : Result (List FactorRow × List ℕ) Refusal) → b ≡ b' → Same x y → Same (parts_with b x) (parts_with b' y)
-parts_same b b' (Ok x) (Ok y) is same = (λ i. record { building = is i; rows = (same i).0; notes = (same i).1 })
-parts_same b b' (Ok x) (Err g) is same = same
-parts_same b b' (Err f) (Ok y) is same = same
-parts_same b b' (Err f) (Err g) is same = same
-
-pub opens_only : (feed : List ℕ) (a b : Result ProjectParts Refusal) → Opens feed a → Opens feed b → Same a b
+pub opens_only : (feed : List ℕ) (a b : Result ProjectParts Refusal) → Opens feed a → Opens feed b → Same ◌≡◌ a b
 opens_only feed a b (too_long {f = f} long) (too_long {f = g} long') = least_only (sized feed) (refusal_number f) (refusal_number g) long long'
 opens_only feed a b (too_long {f = f} long) (no_building short reads) = absurd (unbroken (sized feed) short (refusal_number f) long.0)
-opens_only feed a b (too_long {f = f} long) (building m rest x short reads one cut rows is) = absurd (unbroken (sized feed) short (refusal_number f) long.0)
+opens_only feed a b (too_long {f = f} long) (building x short reads run takes) = absurd (unbroken (sized feed) short (refusal_number f) long.0)
 opens_only feed a b (no_building short reads) (too_long {f = f} long) = absurd (unbroken (sized feed) short (refusal_number f) long.0)
-opens_only feed a b (no_building {f = f} short reads) (no_building {f = g} short' reads') = least_only (readable (λ k. k ≡ 1) feed) (refusal_number f) (refusal_number g) reads reads'
-opens_only feed a b (no_building {f = f} short reads) (building m rest x short' reads' one cut rows is) = absurd (not_both (λ k. k ≡ 1) IsBuilding feed x f reads' reads)
-opens_only feed a b (building m rest x short reads one cut rows is) (too_long {f = f} long) = absurd (unbroken (sized feed) short (refusal_number f) long.0)
-opens_only feed a b (building m rest x short reads one cut rows is) (no_building {f = f} short' reads') = absurd (not_both (λ k. k ≡ 1) IsBuilding feed x f reads reads')
-opens_only feed a b (building {read = xs} m rest x short reads one cut rows is) (building {read = ys} m' rest' x' short' reads' one' cut' rows' is') =
-    let same = front_only m rest m' rest' one one' (sym cut ∙ cut') in
-    let read = rows_only 0 rest xs ys rows (subst (λ b. Rows 0 b ys) (sym same.1) rows') in
-    subst (λ z. Same z b) (sym is) (subst (Same (parts_with (numbers_of x) xs)) (sym is') (parts_same (numbers_of x) (numbers_of x') xs ys (reads.1 ∙ sym reads'.1) read))
+opens_only feed a b (no_building {f = f} short reads) (no_building {f = g} short' reads') = building_once feed (Err f) (Err g) reads reads'
+opens_only feed a b (no_building {f = f} short reads) (building x short' reads' run takes) = absurd (building_once feed (Err f) (Ok x) reads reads')
+opens_only feed a b (building x short reads run takes) (too_long {f = f} long) = absurd (unbroken (sized feed) short (refusal_number f) long.0)
+opens_only feed a b (building x short reads run takes) (no_building {f = f} short' reads') = absurd (building_once feed (Ok x) (Err f) reads reads')
+opens_only feed a b (building {notes = ns} {left = l} x short reads run takes) (building {notes = ns'} {left = l'} y short' reads' run' takes') =
+    let numbers = building_once feed (Ok x) (Ok y) reads reads' in
+    let same = rows_only (after_first feed) ns ns' l l' run run' in
+    takes_only (with_left (numbers_of x) [] l) ns a b takes (rw (numbers, same.0, same.1) takes')
 
 -- the line for a refusal depends on its number alone
 denied_same : (k : ℕ) (f g : Refusal) → refusal_number f ≡ refusal_number g → denied_line k f ≡ denied_line k g
 denied_same k f g number i = codes "denied " ++ (decimal k ++ (codes " " ++ (decimal (number i) ++ codes "\n")))
 
 -- one send of a sheet has one outcome, and one line
-send_once : (s t t' : State) (bs : List ℕ) (r r' : Result (Unit {0}) Refusal) (k : ℕ) → Sends s bs r t → Sends s bs r' t' → (t ≡ t') × (send_said k r ≡ send_said k r')
-send_once s t t' bs (Ok u) (Ok v) k a b = (a.answer.1 ∙ sym b.answer.1, refl)
-send_once s t t' bs (Ok u) (Err g) k a b = absurd (unbroken (asked s.building.life s.known bs ++ placing s.held (line_sent s bs)) a.answer.0 (refusal_number g) b.answer.0)
-send_once s t t' bs (Err f) (Ok v) k a b = absurd (unbroken (asked s.building.life s.known bs ++ placing s.held (line_sent s bs)) b.answer.0 (refusal_number f) a.answer.0)
-send_once s t t' bs (Err f) (Err g) k a b =
-    (a.refused ∙ sym b.refused, denied_same k f g (least_only (asked s.building.life s.known bs ++ placing s.held (line_sent s bs)) (refusal_number f) (refusal_number g) a.answer b.answer))
+same_sends : (s t t' : State) (bs : List ℕ) (r r' : Result (Unit {0}) Refusal) (k : ℕ) → Sends s bs r t → Sends s bs r' t' → Same (λ u v. t ≡ t') r r' → (t ≡ t') × (send_said k r ≡ send_said k r')
+same_sends s t t' bs (Ok u) (Ok v) k a b same = (same, refl)
+same_sends s t t' bs (Ok u) (Err g) k a b same = absurd same
+same_sends s t t' bs (Err f) (Ok v) k a b same = absurd same
+same_sends s t t' bs (Err f) (Err g) k a b same = (a.refused ∙ sym b.refused, denied_same k f g same)
 
 module _ (b : BuildingNumbers) (known : Map) where
   -- the same bytes, sent in the same order, lead to one sheet and to the same lines
@@ -120,7 +100,8 @@ module _ (b : BuildingNumbers) (known : Map) where
       let tail : map (λ z. z.0) a ≡ map (λ z. z.0) a' = ap (drop 1) same in
       let before = sent_once a a' t t' tail run run' in
       let step'' : Sends t x.0 y.1 s' = subst (λ q. Sends q x.0 y.1 s') (sym before.0) (subst (λ bs. Sends t' bs y.1 s') (sym bytes) step') in
-      let once = send_once t s s' x.0 x.1 y.1 (length (sends (sendings a)) + 1) step step'' in
+      let same = decided_only (asked t.building.life t.known x.0 ++ placing t.held (line_sent t x.0)) (λ u. s ≡ with_line t (line_sent t x.0)) (λ u. s' ≡ with_line t (line_sent t x.0)) (λ u v. s ≡ s') (λ u v is is'. is ∙ sym is') x.1 y.1 step.answer step''.answer in
+      let once = same_sends t s s' x.0 x.1 y.1 (length (sends (sendings a)) + 1) step step'' same in
       let place : length (sends (sendings a)) + 1 ≡ length (sends (sendings a')) + 1 = ap (λ l. length l + 1) (bytes_are a (map (λ z. z.0) a') tail ∙ sym (bytes_are a' (map (λ z. z.0) a') refl)) in
       (once.0, λ i. before.1 i ++ (once.1 ∙ ap (λ k. send_said k y.1) place) i)
 

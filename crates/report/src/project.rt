@@ -1,7 +1,7 @@
 // What a feed opens with: a building, and the project's own factors.
 ghost use Rattle.std.specs.Prelude.{◌≡◌};
 ghost use Rattle.report.specs.declared.project.ProjectError.TheVariants.{Refused};
-ghost use Rattle.report.specs.Projects.{ReadsProject, AnswersRow, ForMemory};
+ghost use Rattle.report.specs.Projects.{ReadsProject, ReadsRow, ForMemory};
 
 use feed::building::Building;
 use feed::factor::FactorRow;
@@ -47,7 +47,8 @@ impl<T: Drop> From<AllocFailed<T>> for ProjectError {
 }
 
 impl<'a> Project<'a> {
-    // The first note is the building, and the run of factor rows after it is the list.
+    // The first note is the building, and the factor rows after it are the list.
+    #[tactic(auto, using(feed::proofs::Ending::fewer_left))]
     pub(crate) fn read(heap: Global, feed: &'a [u8]) -> Result<Project<'a>, ProjectError>
         ensures { ReadsProject feed.now result }
     {
@@ -59,9 +60,9 @@ impl<'a> Project<'a> {
         let mut reader = Reader::new(feed);
         reader.next()?;
         let mut rows = Vec::new(heap);
-        while let Some(row) = read_row(reader.left().bytes, rows.len())? {
+        while let Some(note) = reader.next_row() {
+            let row = read_row(note.bytes, rows.len())?;
             rows.push(row)?;
-            reader.next()?;
         }
         Ok(Project {
             building,
@@ -71,16 +72,13 @@ impl<'a> Project<'a> {
     }
 }
 
-// The factor row that the bytes begin with, after so many others; none where they begin with another note, or with none.
-fn read_row(bytes: &[u8], before: usize) -> Result<Option<FactorRow>, Refusal>
-    ensures { AnswersRow before bytes.now result }
+// The factor row of a note, after so many others.
+fn read_row(note: &[u8], before: usize) -> Result<FactorRow, Refusal>
+    ensures { ReadsRow before note.now result }
 {
-    if !FactorRow::is_next(bytes) {
-        return Ok(None);
-    }
-    let row = FactorRow::read(bytes)?;
+    let row = FactorRow::read(note)?;
     if before >= MOST_ROWS {
         return Err(Refusal::TooManyRows);
     }
-    Ok(Some(row))
+    Ok(row)
 }

@@ -1,17 +1,27 @@
-use Rattle.std.proofs.Common.{◌≡◌, None, vec_items, sym, subst}
-use Rattle.feed.specs.Buildings.{IsBuilding}
-use Rattle.listing.specs.Openings.{FitRows, Begins, building, none}
-use Rattle.feed.proofs.Beginning.{not_both, rest_left}
+use Rattle.std.proofs.Common.{None, Ok, Err, sym, subst}
+use Rattle.feed.proofs.Beginning.{building_once, first_passed}
+use Rattle.feed.specs.Frames.{RowNotes}
+use Rattle.listing.specs.Openings.{Begins, building, no_building}
+use Rattle.listing.proofs.Runs.{none_yet, one_more, passed_over, no_more}
 use Rattle.listing.proofs.opening.Opening.read.Goals as goal
 
 pub returns-in_default : goal.returns-in_default
 returns-in_default c =
     let feed = c.args.feed.now in
-    subst (Begins feed None) (sym c.new.ensures.items) (none (λ b reads. not_both (λ k. k ≡ 1) IsBuilding feed b c.in_default.field-0 reads c.in_default.ensures.value))
+    subst (Begins feed None) (sym c.new.ensures.items) (no_building (λ b reads. building_once feed (Ok b) (Err c.in_default.field-0) reads c.in_default.ensures.value))
+
+pub loop-part-init : goal.loop-part-init
+loop-part-init c = none_yet c.next.new.self _ c.new-rows.ensures.items
+
+pub loop-part-preserved-in-Continue-1 : goal.loop-part-preserved-in-Continue-1
+loop-part-preserved-in-Continue-1 c = one_more _ _ _ c.loop-part.invariant c.in-Some.part _ c.in-Some.ensures c.in-Ok-read.row _ c.in-Ok-read.ensures.value c.in_ok-push.ensures.items
+
+pub loop-part-preserved : goal.loop-part-preserved
+loop-part-preserved c = passed_over _ _ _ c.loop-part.invariant c.in-Some.part _ c.in-Some.ensures c.in_default-read.field-0 c.in_default-read.ensures.value
 
 pub returns : goal.returns
 returns c =
     let reads = c.in-Ok.ensures.value in
-    let rest = rest_left c.args.feed.now c.new-reader.result c.next.result c.next.new.self c.new-reader.ensures c.next.ensures.value reads.0.0 in
-    let rows = subst (λ l. FitRows l (vec_items c.in_ok-rows.rows)) c.left.ensures.bytes c.in_ok-rows.ensures in
-    building rest.0 _ c.in-Ok.building reads rest.1 rest.2 rows
+    let list = no_more _ _ _ c.loop-part.invariant _ c.in_default-next_row.ensures in
+    let passed = first_passed c.args.feed.now c.new-reader.result c.next.result c.next.new.self c.new-reader.ensures c.next.ensures.value reads.0.0 in
+    building c.in-Ok.building reads (subst (λ bs. RowNotes bs list.notes list.left) passed list.run) list.fit

@@ -1,22 +1,17 @@
-use Rattle.std.proofs.Common.{[], ◌++◌, codes, subst, append-nil, rules}
+use Rattle.std.proofs.Common.{Ok, refl, sym, append-nil, rules}
 use Rattle.feed.specs.declared.note.Note.TheVariants.{Entry}
-use Rattle.feed.specs.Frames.{first_note}
 use Rattle.feed.specs.Words.{words}
-use Rattle.listing.specs.Lines.{Tells, outcome_said}
-use Rattle.listing.specs.Openings.{account_of}
-use Rattle.listing.proofs.Texts.{tells_note, entry_weighs, none_weighs}
+use Rattle.listing.specs.Lines.{Weighed}
+use Rattle.listing.specs.Openings.{basis_of}
+use Rattle.listing.proofs.Texts.{none_weighs}
 use Rattle.listing.proofs.statement.Statement.of.Goals as goal
 
 pub returns-in-Ok-Entry : goal.returns-in-Ok-Entry
 returns-in-Ok-Entry c =
-    let bs = c.args.bytes.now in
-    let account = account_of c.args.opening.now in
-    let reads = rw c.in-Ok-Entry.field-0-is at c.in-Ok-Entry.ensures.value in
-    tells_note account bs (Entry c.in-Ok-Entry.entry) (codes " " ++ outcome_said c.book.result.0) reads (entry_weighs account (first_note bs) c.in-Ok-Entry.entry _ reads.1 (rw c.into.ensures at c.book.ensures))
+    let weighed : Weighed (basis_of c.args.opening.now) _ _ = record { outcome = c.book.result; books = rw c.into.ensures at c.book.ensures; text = refl } in
+    record { answer = Ok (Entry c.in-Ok-Entry.entry); read = rw c.in-Ok-Entry.field-0-is at c.in-Ok-Entry.ensures.value; tells = record { weight = _; weighs = weighed; text = refl } }
 
 pub returns-in-Ok : goal.returns-in-Ok
 returns-in-Ok c =
-    let bs = c.args.bytes.now in
-    let account = account_of c.args.opening.now in
-    let reads = c.in-Ok.ensures.value in
-    subst (Tells account bs) (append-nil (words c.in-Ok.note)) (tells_note account bs c.in-Ok.note [] reads (none_weighs account (first_note bs) c.in-Ok.note reads.1 (search rules)))
+    let none = none_weighs (basis_of c.args.opening.now) c.in-Ok.note (search rules) in
+    record { answer = Ok c.in-Ok.note; read = c.in-Ok.ensures.value; tells = record { weight = _; weighs = none; text = sym (append-nil (words c.in-Ok.note)) } }

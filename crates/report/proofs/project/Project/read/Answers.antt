@@ -1,7 +1,7 @@
-use Rattle.std.proofs.Common.{Some, None, Ok, Err, vec_items, sym, ◌∙◌, subst, arith}
-use Rattle.report.proofs.Listed.{one_more, no_more, one_refused}
+use Rattle.std.proofs.Common.{Ok, Err, vec_items, sym, ◌∙◌, subst, arith}
+use Rattle.report.proofs.Listed.{with_left, none_yet, one_more, no_more, one_refused}
 use Rattle.report.proofs.Opening.{refused_with, for_memory, too_many_bytes, opens_with}
-use Rattle.report.specs.Projects.{Opens, no_building, AnswersRow}
+use Rattle.report.specs.Projects.{Opens, no_building, ReadsRow}
 use Rattle.feed.specs.Buildings.{numbers_of}
 use Rattle.report.proofs.project.Project.read.Goals as goal
 
@@ -14,22 +14,24 @@ returns-in_err-building c =
 
 pub returns-in_err-row : goal.returns-in_err-row
 returns-in_err-row c =
-    let answer = subst (λ n. AnswersRow n c.left.result.bytes.now (Err c.in_err-row.field-0.0)) (c.len.ensures ∙ c.loop-rows.rows.ok.0) c.in_err-row.ensures in
-    let rows = one_refused _ _ _ c.loop-rows.invariant c.left.result c.left.ensures c.in_err-row.field-0.0 answer in
+    let reads = subst (λ n. ReadsRow n c.in-Some.note.bytes.now (Err c.in_err-row.field-0.0)) (c.len.ensures ∙ c.loop-note.rows.ok.0) c.in_err-row.ensures in
+    let ends = one_refused _ _ _ _ c.loop-note.invariant c.in-Some.note _ c.in-Some.ensures c.in_err-row.field-0.0 reads in
     refused_with c.args.feed.now _ c.in_err-row.field-0.0 c.from_residual-in_err-row.ensures.1
-    (opens_with c.args.feed.now (omega (arith, c.if-feed-gt-MOST_BYTES.false), tt) c.in_ok-building.building c.in_ok-building.ensures.value _ _ _ c.new-reader.ensures c.next.ensures.value _ rows)
+    (opens_with c.args.feed.now c.in_ok-building.building _ _ _ _ (omega (arith, c.if-feed-gt-MOST_BYTES.false), tt) c.in_ok-building.ensures.value c.new-reader.ensures c.next.ensures.value ends)
 
 pub returns-in_err-push : goal.returns-in_err-push
 returns-in_err-push c = for_memory c.args.feed.now _ c.from_residual-in_err-push.ensures.1
 
-pub loop-rows-preserved : goal.loop-rows-preserved
-loop-rows-preserved c =
-    let answer = subst (λ n. AnswersRow n c.left.result.bytes.now (Ok (Some c.in-Some.row))) (c.len.ensures ∙ c.loop-rows.rows.ok.0) (rw c.in-Some.is at c.in_ok-row.ensures) in
-    one_more _ _ _ c.loop-rows.invariant c.left.result c.left.ensures c.in-Some.row _ _ _ answer c.next-in-Some.ensures.value c.in_ok-push.ensures.items
+pub loop-note-init : goal.loop-note-init
+loop-note-init c = none_yet (numbers_of c.in_ok-building.building) _ _ c.new-rows.ensures.items
+
+pub loop-note-preserved : goal.loop-note-preserved
+loop-note-preserved c =
+    let reads = subst (λ n. ReadsRow n c.in-Some.note.bytes.now (Ok c.in_ok-row.row)) (c.len.ensures ∙ c.loop-note.rows.ok.0) c.in_ok-row.ensures in
+    one_more _ _ _ _ c.loop-note.invariant c.in-Some.note _ c.in-Some.ensures c.in_ok-row.row _ reads c.in_ok-push.ensures.items
 
 pub returns : goal.returns
 returns c =
-    let answer = subst (λ n. AnswersRow n c.left.result.bytes.now (Ok None)) (c.len.ensures ∙ c.loop-rows.rows.ok.0) (rw c.in_default.is at c.in_ok-row.ensures) in
-    let rows = no_more _ _ _ c.loop-rows.invariant c.left.result c.left.ensures answer in
-    let opens = opens_with c.args.feed.now (omega (arith, c.if-feed-gt-MOST_BYTES.false), tt) c.in_ok-building.building c.in_ok-building.ensures.value _ _ _ c.new-reader.ensures c.next.ensures.value _ rows in
-    subst (λ bs. Opens c.args.feed.now (Ok (record { building = numbers_of c.in_ok-building.building; rows = vec_items c.loop-rows.rows; notes = bs }))) (sym c.left-2.ensures.bytes) opens
+    let ends = no_more _ _ _ _ c.loop-note.invariant c.next_row.new.self c.in_default.ensures in
+    let opens = opens_with c.args.feed.now c.in_ok-building.building _ _ _ _ (omega (arith, c.if-feed-gt-MOST_BYTES.false), tt) c.in_ok-building.ensures.value c.new-reader.ensures c.next.ensures.value ends in
+    subst (λ bs. Opens c.args.feed.now (Ok (with_left (numbers_of c.in_ok-building.building) (vec_items c.loop-note.rows) bs))) (sym c.left.ensures.bytes) opens
