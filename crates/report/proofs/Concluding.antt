@@ -41,10 +41,10 @@ concludes c text a =
       sends = a.sends;
       sent = a.sent;
       before = said calls;
-      figures = take 4 a.after;
+      figures = take by_stage.size a.after;
       total = a.total;
       grade = a.grade;
-      written = a.written ∙ append_assoc (said calls) (page_lines (take 4 a.after) a.total) (grade_line a.grade);
-      page = subst (λ bs. LawfulPage c.building.life known bs by_stage (take 4 a.after) a.total) bytes (law.pages (graded a.grade ∷ []) calls by_stage a.total a.places a.after refl);
+      written = a.written ∙ append_assoc (said calls) (page_lines (take by_stage.size a.after) a.total) (grade_line a.grade);
+      page = subst (λ bs. LawfulPage c.building.life known bs by_stage (take by_stage.size a.after) a.total) bytes (law.pages (graded a.grade ∷ []) calls by_stage a.total a.places a.after refl);
       award = subst (λ bs. LawfulGrade c.building known bs a.grade) bytes (law.grades [] (page_call ∷ calls) a.grade refl);
     }

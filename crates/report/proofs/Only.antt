@@ -111,7 +111,7 @@ module _ (b : BuildingNumbers) (known : Map) where
       let sent = sent_once a a' s s' same run run' in
       let pages'' : Pages s by_stage places' (Ok total') after' = subst (λ q. Pages q by_stage places' (Ok total') after') (sym sent.0) pages' in
       let grades'' : Grades s n' = subst (λ q. Grades q n') (sym sent.0) grades' in
-      let figures : take 4 after ≡ take 4 after' = shown by_stage (sums_of_lines (lines s.held)) places total after pages.writes ∙ sym (shown by_stage (sums_of_lines (lines s.held)) places' total' after' pages''.writes) in
+      let figures : take by_stage.size after ≡ take by_stage.size after' = shown by_stage (sums_of_lines (lines s.held)) places total after pages.writes ∙ sym (shown by_stage (sums_of_lines (lines s.held)) places' total' after' pages''.writes) in
       let totals : total ≡ total' = pages.writes.answer.1 ∙ sym pages''.writes.answer.1 in
       let grade_is : n ≡ n' = one_grade s.building (weight (sums_of_lines (lines s.held))) n n' grades grades'' in
       (λ i. (sent.1 i ++ page_lines (figures i) (totals i)) ++ grade_line (grade_is i))

@@ -1,6 +1,7 @@
 -- What a feed opens with: its building, and the project's own factors. Assumes nothing.
 use Rattle.std.specs.Prelude.{◌≡◌, ℕ, ◌<◌, ◌≤◌, List, [], ◌∷◌, ◌++◌, length, Ok, Err, Result, vec_items}
 use Rattle.refusals.specs.declared.refusal.Refusal.{Refusal}
+use Rattle.refusals.specs.declared.refusal.Refusal.TheVariants.{TooManyRows, FeedTooLong}
 use Rattle.refusals.specs.Refusals.{Conditions, Least, Kept, Decided, refusal_number}
 use Rattle.feed.specs.declared.building.Building.{Building}
 use Rattle.feed.specs.declared.building.BuildingNumbers.{BuildingNumbers}
@@ -15,11 +16,11 @@ use Rattle.report.specs.declared.project.ProjectError.TheVariants.{Refused, OutO
 
 -- what is asked of a feed before any note of it is read
 abbrev pub sized : List ℕ → Conditions
-sized feed = (25, length feed ≤ 65536) ∷ []
+sized feed = (refusal_number FeedTooLong, length feed ≤ 65536) ∷ []
 
 -- what is asked of a note that is read as a factor row, after n others
 abbrev pub row_asked : ℕ → List ℕ → Conditions
-row_asked n note = readable (λ k. k ≡ 2) note ++ ((24, n < 256) ∷ [])
+row_asked n note = readable (λ k. k ≡ 2) note ++ ((refusal_number TooManyRows, n < 256) ∷ [])
 
 -- r is what reading it answers
 abbrev pub ReadsRow : ℕ → List ℕ → Result FactorRow Refusal → Type 0
