@@ -8,7 +8,7 @@ ghost use Rattle.refusals.specs.Refusals.{Judged};
 use codes::FactorUnit;
 use refusals::Refusal;
 
-const FARTHEST: u16 = 10_000;
+const MOST_KILOMETRES: u16 = 10_000;
 
 const MOST_YEARS: u16 = 100;
 
@@ -40,7 +40,7 @@ impl Reckoning {
     {
         let (multiplier, divisor) = match self {
             Reckoning::Once if span == 0 => (1, 1),
-            Reckoning::Hauled if span <= FARTHEST => (span, 1),
+            Reckoning::Hauled if span <= MOST_KILOMETRES => (span, 1),
             Reckoning::Yearly if span == 0 => (years, 1),
             Reckoning::Renewed if (1..=MOST_YEARS).contains(&span) => (years / span, 1),
             Reckoning::Refilled if (1..=MOST_YEARS).contains(&span) => (years, span),

@@ -8,13 +8,13 @@ use crate::little::number_at;
 use codes::{BuildingType, Kind, Region};
 use refusals::Refusal;
 
-const AREA_MAX: u32 = 100_000_000;
+const MOST_AREA: u32 = 100_000_000;
 
-const LIFE_MAX: u16 = 100;
+const MOST_LIFE: u16 = 100;
 
-const SUN_MAX: u16 = 4;
+const MOST_SUN: u16 = 4;
 
-const REFERENCE_MAX: u16 = 10_000;
+const MOST_REFERENCE: u16 = 10_000;
 
 // Every building that exists keeps these ranges.
 #[derive(Clone, Copy, Debug, PartialEq, Eq)]
@@ -106,10 +106,10 @@ impl TryFrom<BuildingNumbers> for Building {
     ghost try_from_gives = { λ n r. Judged (BuildingInRange n) OutOfRange (λ b. numbers_of b ≡ n) r };
 
     fn try_from(n: BuildingNumbers) -> Result<Building, Refusal> {
-        let fits = (1..=AREA_MAX).contains(&n.area)
-            && (1..=LIFE_MAX).contains(&n.life)
-            && (1..=SUN_MAX).contains(&n.sun)
-            && n.reference <= REFERENCE_MAX;
+        let fits = (1..=MOST_AREA).contains(&n.area)
+            && (1..=MOST_LIFE).contains(&n.life)
+            && (1..=MOST_SUN).contains(&n.sun)
+            && n.reference <= MOST_REFERENCE;
         if !fits {
             return Err(Refusal::OutOfRange);
         }

@@ -8,7 +8,7 @@ use crate::little::number_at;
 use codes::{FactorUnit, Kind};
 use refusals::Refusal;
 
-const AMOUNT_MAX: u32 = 1_000_000_000;
+const MOST_AMOUNT: u32 = 1_000_000_000;
 
 // Every factor that exists keeps its range.
 #[derive(Clone, Copy, Debug, PartialEq, Eq)]
@@ -92,7 +92,7 @@ impl TryFrom<FactorRow> for Factor {
     ghost try_from_gives = { λ row r. Judged (FactorInRange row) OutOfRange (λ f. (f.amount ≡ row.amount) × (unit_number f.unit ≡ row.unit)) r };
 
     fn try_from(row: FactorRow) -> Result<Factor, Refusal> {
-        if row.amount > AMOUNT_MAX {
+        if row.amount > MOST_AMOUNT {
             return Err(Refusal::OutOfRange);
         }
         Ok(Factor {
