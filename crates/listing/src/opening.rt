@@ -16,7 +16,7 @@ pub struct Opening {
 
 impl Opening {
     // The first note, if it is a building, and the factor rows after it; without a building there is no list either.
-    #[tactic(auto, using(feed::proofs::Ending::fewer_left))]
+    #[tactic(auto, using(feed::proofs::Ending::fewer_left, crate::proofs::Runs::one_more))]
     pub fn read(heap: Global, feed: &[u8]) -> Result<Opening, AllocError>
         ensures { IfOk result (λ o. Begins feed.now o.building o.rows.items) }
     {

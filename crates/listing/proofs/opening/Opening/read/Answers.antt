@@ -2,7 +2,7 @@ use Rattle.std.proofs.Common.{None, Ok, Err, sym, subst}
 use Rattle.feed.proofs.Beginning.{building_once, first_passed}
 use Rattle.feed.specs.Frames.{RowNotes}
 use Rattle.listing.specs.Openings.{Begins, building, no_building}
-use Rattle.listing.proofs.Runs.{none_yet, one_more, passed_over, no_more}
+use Rattle.listing.proofs.Runs.{none_yet, passed_over, no_more}
 use Rattle.listing.proofs.opening.Opening.read.Goals as goal
 
 pub returns-in_default : goal.returns-in_default
@@ -12,9 +12,6 @@ returns-in_default c =
 
 pub loop-part-init : goal.loop-part-init
 loop-part-init c = none_yet c.next.new.self _ c.new-rows.ensures.items
-
-pub loop-part-preserved-in-Continue-1 : goal.loop-part-preserved-in-Continue-1
-loop-part-preserved-in-Continue-1 c = one_more _ _ _ c.loop-part.invariant c.in-Some.part _ c.in-Some.ensures c.in-Ok-read.row _ c.in-Ok-read.ensures.value c.in_ok-push.ensures.items
 
 pub loop-part-preserved : goal.loop-part-preserved
 loop-part-preserved c = passed_over _ _ _ c.loop-part.invariant c.in-Some.part _ c.in-Some.ensures c.in_default-read.field-0 c.in_default-read.ensures.value
