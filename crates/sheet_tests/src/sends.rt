@@ -53,7 +53,10 @@ fn lines_that_are_not_equal(rt: HostRuntime) -> Result<(), Refusal> {
     codes[16] = 8;
     assert_eq!(rt; sheet.send(&codes), Err(Refusal::Contradicted));
     assert_eq!(rt; sheet.send(&entry(2, 0, 3, 1_000)), Ok(()));
-    assert_eq!(rt; sheet.send(&entry(2, 0, 4, 1_000)), Err(Refusal::Contradicted));
+    assert_eq!(rt;
+        sheet.send(&entry(2, 0, 4, 1_000)),
+        Err(Refusal::Contradicted)
+    );
     Ok(())
 }
 
