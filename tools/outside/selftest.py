@@ -7,6 +7,7 @@ down by hand, and on random sheets by what has to hold of every page.
 from fractions import Fraction
 
 import feeds
+from known import known_answers
 from reference import STAGES, Refused, exact_grams, open_and_send, page_figures, report, sign
 
 
@@ -33,10 +34,6 @@ def headings_keep_their_promise(sheet):
 
 
 def self_test():
-    # Not before now: these modules aim with the reference, and so import it.
-    import feeds
-    from known import known_answers
-
     for name, feed, expected in known_answers():
         got = report(feed)
         assert got == expected, f"{name}: {got!r} in place of {expected!r}"

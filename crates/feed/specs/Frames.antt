@@ -1,5 +1,6 @@
 -- What a note is, before its fields are looked at. Assumes nothing.
 use Rattle.std.specs.Prelude.{◌≡◌, ℕ, ◌≤◌, List, [], ◌∷◌, length, take, drop}
+use Rattle.feed.specs.declared.frame.Head.{Head}
 use Rattle.feed.specs.Fields.{field}
 
 -- the bytes begin with a whole note: four bytes are there, and the length that the first two give is at least 4 and no more than there are
@@ -24,6 +25,10 @@ pub record OneNote (note : List ℕ) : Type 0 where
 -- a note's kind: 1 building, 2 factor row, 3 entry, 4 measured entry, 5 withdrawal
 abbrev pub note_kind : List ℕ → ℕ
 note_kind note = field note 2 2
+
+-- the head of a note
+abbrev pub IsHead : List ℕ → Head → Type 0
+IsHead note head = (head.length ≡ length note) × (head.kind ≡ note_kind note)
 
 -- the bytes begin with a note of the kind of factor rows
 abbrev pub RowFirst : List ℕ → Type 0

@@ -4,7 +4,6 @@ pub mod Factors
 pub mod Feeds
 pub mod Fields
 pub mod Frames
-pub mod Heads
 pub mod Notes
 pub mod Readings
 pub mod Sendings

@@ -1,7 +1,6 @@
 // Where the first note of given bytes ends, and what it says before its fields.
 ghost use Rattle.std.specs.Prelude.{◌≡◌, ◌≤◌, length};
-ghost use Rattle.feed.specs.Frames.{first_note, note_kind};
-ghost use Rattle.feed.specs.Heads.{IsHead};
+ghost use Rattle.feed.specs.Frames.{first_note, note_kind, IsHead};
 ghost use Rattle.feed.specs.Readings.{framing};
 ghost use Rattle.refusals.specs.declared.refusal.Refusal.TheVariants.{WrongLength};
 ghost use Rattle.refusals.specs.Refusals.{Decided, Judged};

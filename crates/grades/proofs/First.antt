@@ -4,8 +4,7 @@ use Rattle.std.proofs.lemmas.List.{at_drop_more}
 use Rattle.codes.specs.declared.regions.Region.TheVariants.{SevereCold}
 use Rattle.feed.specs.declared.building.BuildingNumbers.{BuildingNumbers}
 use Rattle.grades.specs.declared.limits.LimitRow.{LimitRow}
-use Rattle.grades.specs.Limits.{is_for, limit}
-use Rattle.grades.specs.Rows.{row_numbers}
+use Rattle.grades.specs.Limits.{is_for, limit, row_numbers}
 
 abbrev pub row_at : List LimitRow → ℕ → LimitRow
 row_at rows i = get_or rows i (record { region = SevereCold; sun = None; limits = [] })

@@ -1,4 +1,3 @@
 pub mod Grades
 pub mod Limits
 pub mod Ratios
-pub mod Rows

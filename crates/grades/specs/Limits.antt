@@ -1,6 +1,8 @@
 -- The limits of the two grades, in tenths of a kilogram per square metre and year. The figures are those of the zero-carbon draft. Assumes nothing.
 use Rattle.std.specs.Prelude.{ℕ, ◌-◌, Bool, true, if◌then◌else◌, ◌&&◌, ◌==◌, List, [], ◌∷◌, slice_index, Option, Some, None}
 use Rattle.feed.specs.declared.building.BuildingNumbers.{BuildingNumbers}
+use Rattle.codes.specs.Codes.{region_number}
+use Rattle.grades.specs.declared.limits.LimitRow.{LimitRow}
 
 -- the limits of a region, one for each type of building; of one sun class, or of every class where none is named
 pub record Limits : Type 0 where
@@ -10,6 +12,10 @@ pub record Limits : Type 0 where
 
 abbrev pub in_region : ℕ → Option ℕ → List ℕ → Limits
 in_region region sun by_type = record { region = region; sun = sun; by_type = by_type }
+
+-- a row of the program's tables as limits
+abbrev pub row_numbers : LimitRow → Limits
+row_numbers row = record { region = region_number row.region; sun = row.sun; by_type = row.limits }
 
 -- whether limits of a sun class are for the class c
 abbrev pub of_sun : Option ℕ → ℕ → Bool

@@ -1,8 +1,7 @@
 // The limits of the two grades, and which of them a building has.
 ghost use Rattle.std.specs.Prelude.{◌≡◌, map};
 ghost use Rattle.feed.specs.Buildings.{numbers_of};
-ghost use Rattle.grades.specs.Limits.{is_for, limit, low_carbon_limits, near_zero_limits};
-ghost use Rattle.grades.specs.Rows.{row_numbers};
+ghost use Rattle.grades.specs.Limits.{is_for, limit, low_carbon_limits, near_zero_limits, row_numbers};
 
 use codes::Region;
 use feed::building::Building;

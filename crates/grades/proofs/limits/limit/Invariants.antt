@@ -1,7 +1,6 @@
 use Rattle.std.proofs.Common.{◌≡◌, map, drop}
 use Rattle.feed.specs.Buildings.{numbers_of}
-use Rattle.grades.specs.Limits.{limit}
-use Rattle.grades.specs.Rows.{row_numbers}
+use Rattle.grades.specs.Limits.{limit, row_numbers}
 use Rattle.grades.proofs.limits.limit.Given as goal
 
 -- no row so far is for the building
