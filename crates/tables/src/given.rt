@@ -1,5 +1,5 @@
 // Whether a building is given a grade, by what the energy of its use weighs.
-ghost use Rattle.std.specs.Prelude.{◌≡◌, ℕ, ◌+◌, ◌^◌, ◌<◌, ◌↔◌, IsTrue, pos};
+ghost use Rattle.std.specs.Prelude.{◌≡◌, ◌+◌, ◌^◌, ◌<◌, ◌↔◌, IsTrue, pos};
 ghost use Rattle.feed.specs.Buildings.{numbers_of};
 ghost use Rattle.totals.specs.Sums.{sums_of};
 ghost use Rattle.grades.specs.Grades.{grade_number, weight};
