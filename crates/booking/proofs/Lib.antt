@@ -1,4 +1,3 @@
-mod Contents
 pub mod Kept
 mod Measures
 mod Patterns

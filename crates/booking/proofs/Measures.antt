@@ -1,68 +1,70 @@
--- The tests of a measured quantity, and its range. Assumes nothing.
-use Rattle.std.proofs.Common.{◌≡◌, ℕ, zero, suc, ◌*◌, ◌≤◌, true, false, ℤ, pos, sym, refl, subst, true≢false, arith, ltb-false, ltb-true}
-use lib.Ieee.{Float, nan, inf, fin, up, down, binary64, of_bits, is_nan, lt}
+-- Quantities: their ranges by the code's tests, and what is booked of them. Assumes nothing.
+use Rattle.std.proofs.Common.{◌≡◌, ℕ, zero, suc, ◌+◌, ◌*◌, ◌<◌, ◌≤◌, ◌↔◌, true, false, ◌||◌, ◌&&◌, ltb, eqb, ℤ, pos, sym, refl, ap, ◌∙◌, subst, true≢false, arith}
+use lib.Ieee.{Float, nan, inf, fin, up, down, binary64, of_bits, lt, le, eq}
 use lib.Ieee.Fits.{up_pos, down_pos}
-use Rattle.exact.specs.Rounding.{Divides}
-use Rattle.exact.proofs.Nearness.{rounded_most}
-use Rattle.booking.specs.declared.quantity.Quantity.{Quantity}
-use Rattle.booking.specs.declared.quantity.Quantity.TheVariants.{Counted, Measured}
-use Rattle.booking.specs.Quantities.{MeasuredInRange, measured_thousandths, QuantityInRange, booked_thousandths}
+use Rattle.std.specs.Bool.{IsTrue}
+use Rattle.std.proofs.lemmas.Bool.Decides.{nat_tests}
+use Rattle.exact.specs.Rounding.{Divides, WithinHalf}
+use Rattle.exact.proofs.Nearness.{rounded_near, rounded_most}
+use Rattle.domain.specs.declared.entry.Quantity.{Quantity}
+use Rattle.domain.specs.declared.entry.Quantity.TheVariants.{Counted, Measured}
+use Rattle.booking.specs.Quantities.{MeasuredInRange, measured_thousandths, QuantityInRange, exact_thousandths, booked_thousandths}
 
-zero_is : of_bits binary64 0 ≡ fin false 0 (pos 0)
-unfolding of_bits
-zero_is = refl
-
-million_is : of_bits binary64 4696837146684686336 ≡ fin false 15625 (pos 6)
-unfolding of_bits
-million_is = refl
-
+-- only zero is nothing times a power of two
 none : (m : ℕ) (e : ℤ) → m * up e ≡ 0 → m ≡ 0
 none zero e h = refl
 none (suc m) e h = absurd (omega (arith, up_pos e))
 
-passed : (x : Float) → is_nan x ≡ false → lt x (fin false 0 (pos 0)) ≡ false → lt (fin false 15625 (pos 6)) x ≡ false → MeasuredInRange x
-unfolding is_nan lt
-passed nan n l h = absurd (true≢false n)
-passed (inf true) n l h = absurd (true≢false l)
-passed (inf false) n l h = absurd (true≢false h)
-passed (fin true m e) n l h = let z : m ≡ 0 = none m e (omega (arith, ltb-false _ _ l)) in (subst (λ k. k * up e ≤ 1000000 * down e) (sym z) (omega arith), λ t. z)
-passed (fin false m e) n l h = (omega (arith, ltb-false _ _ h), λ t. absurd (true≢false (sym t)))
+-- what `le` tests of two numbers that are not negative, of zero and a negative one, and of a negative one and a positive one
+at_most : (a b : ℕ) → IsTrue (ltb a b || (eqb a b && true)) ↔ (a ≤ b)
+at_most a b = (λ t. grind (arith, nat_tests), λ l. grind (arith, nat_tests))
 
-pub nan_out : (x : Float) → is_nan x ≡ true → MeasuredInRange x → ⊥
-unfolding is_nan
-nan_out nan n r = r
-nan_out (inf s) n r = r
-nan_out (fin s m e) n r = absurd (true≢false (sym n))
+both_zero : (a b : ℕ) → IsTrue (eqb a b && eqb a 0) ↔ ((a ≡ 0) × (b ≡ 0))
+both_zero a b = (λ t. grind (arith, nat_tests), λ z. grind (arith, nat_tests))
 
-below_out : (x : Float) → lt x (fin false 0 (pos 0)) ≡ true → MeasuredInRange x → ⊥
-unfolding lt
-below_out nan l r = r
-below_out (inf s) l r = r
-below_out (fin true m e) l r = let z = r.1 refl in omega (arith, ltb-true _ _ (subst (λ k. lt (fin true k e) (fin false 0 (pos 0)) ≡ true) z l))
-below_out (fin false m e) l r = omega (arith, ltb-true _ _ l)
+rises : (a b : ℕ) → 0 < b → IsTrue (ltb 0 (a + b) || (eqb a b && eqb a 0))
+rises a b l = grind (arith, nat_tests)
 
-above_out : (x : Float) → lt (fin false 15625 (pos 6)) x ≡ true → MeasuredInRange x → ⊥
-unfolding lt
-above_out nan l r = r
-above_out (inf s) l r = r
-above_out (fin true m e) l r = absurd (true≢false (sym l))
-above_out (fin false m e) l r = omega (arith, ltb-true _ _ l, r.0)
+-- 0 and 1,000,000, as the code has them
+abbrev least_measured : Float
+least_measured = of_bits binary64 0
 
-module _ (x : Float) where
-  pub in_range : is_nan x ≡ false → lt x (of_bits binary64 0) ≡ false → lt (of_bits binary64 4696837146684686336) x ≡ false → MeasuredInRange x
-  in_range n l h = passed x n (subst (λ z. lt x z ≡ false) zero_is l) (subst (λ z. lt z x ≡ false) million_is h)
+abbrev most_measured : Float
+most_measured = of_bits binary64 4696837146684686336
 
-  pub out_below : lt x (of_bits binary64 0) ≡ true → MeasuredInRange x → ⊥
-  out_below l = below_out x (subst (λ z. lt x z ≡ true) zero_is l)
+-- both comparisons hold of a number in range, and of nothing else
+pub passes : (x : Float) → IsTrue (le least_measured x) → IsTrue (le x most_measured) → MeasuredInRange x
+unfolding le lt eq of_bits
+passes nan l h = absurd (true≢false (sym l))
+passes (inf true) l h = absurd (true≢false (sym l))
+passes (inf false) l h = absurd (true≢false (sym h))
+passes (fin true m e) l h = let z = (both_zero (0 * down e) (m * up e * 1)).0 l in (omega (arith, z.1), λ t. none m e (omega (arith, z.1)))
+passes (fin false m e) l h = let k = (at_most (m * up e * 1) (1000000 * down e)).0 h in (omega (arith, k), λ t. absurd (true≢false (sym t)))
 
-  pub out_above : lt (of_bits binary64 4696837146684686336) x ≡ true → MeasuredInRange x → ⊥
-  out_above l = above_out x (subst (λ z. lt z x ≡ true) million_is l)
+pub passed : (x : Float) → MeasuredInRange x → IsTrue (le least_measured x) × IsTrue (le x most_measured)
+unfolding le lt eq of_bits
+passed nan r = absurd r
+passed (inf s) r = absurd r
+passed (fin true m e) r =
+    let z : m * up e ≡ 0 = ap (λ n. n * up e) (r.1 refl) ∙ omega arith in
+    ((both_zero (0 * down e) (m * up e * 1)).1 (omega arith, omega arith), rises (m * up e * 1) (1000000 * down e) (omega (arith, down_pos e)))
+passed (fin false m e) r = ((at_most (0 * down e) (m * up e * 1)).1 (omega arith), (at_most (m * up e * 1) (1000000 * down e)).1 (omega (arith, r.0)))
 
 -- what is measured is a number
 pub divides : (x : Float) → Divides (measured_thousandths x)
 divides nan = omega arith
 divides (inf s) = omega arith
 divides (fin s m e) = down_pos e
+
+-- a quantity is booked within half a thousandth of what it is exactly
+pub booked_near : (q : Quantity) {t : ℕ} → t ≡ booked_thousandths q → WithinHalf (pos t) (exact_thousandths q)
+booked_near q is = subst (λ n. WithinHalf (pos n) (exact_thousandths q)) (sym is) (near q)
+  where
+    near : (q : Quantity) → WithinHalf (pos (booked_thousandths q)) (exact_thousandths q)
+    near (Counted n) = rounded_near n 1 (omega arith)
+    near (Measured nan) = rounded_near 0 1 (omega arith)
+    near (Measured (inf s)) = rounded_near 0 1 (omega arith)
+    near (Measured (fin s m e)) = rounded_near (1000 * (m * up e)) (down e) (down_pos e)
 
 -- a quantity in range is booked in range
 pub booked_range : (q : Quantity) → QuantityInRange q → booked_thousandths q ≤ 1000000000

@@ -1,80 +1,94 @@
--- An entry whose row, span and quantity pass, at what its source answers. Assumes nothing.
-use Rattle.std.proofs.Common.{◌≡◌, ℕ, ◌*◌, ◌<◌, ◌≤◌, true, false, true≢false, Result, pos, sym, ap, ◌∙◌, subst, arith}
+-- What booking an entry answers, step by step. Assumes nothing.
+use Rattle.std.proofs.Common.{◌≡◌, ℕ, [], ◌∷◌, true, false, true≢false, Err, pos, refl, sym, ap, ◌∙◌, subst, arith}
 use Rattle.exact.specs.Rounding.{rounded, WithinHalf}
-use Rattle.exact.proofs.Nearness.{rounded_near, rounded_most}
-use Rattle.factors.specs.Maps.{Map, has, lacks}
-use Rattle.std.specs.Bool.{IsTrue}
-use Rattle.std.specs.Result.{IsErrAnd}
-use Rattle.std.proofs.lemmas.Result.{err_from_is_err_and}
+use Rattle.refusals.specs.declared.lacking.Lacking.{Lacking}
 use Rattle.refusals.specs.declared.refusal.Refusal.{Refusal}
-use Rattle.refusals.specs.Refusals.{refusal_number, Kept, Least}
-use Rattle.booking.specs.declared.line.Line.{Line}
-use Rattle.booking.specs.declared.entry.Entry.{Entry}
-use Rattle.booking.specs.declared.reckoning.Reckoning.{Reckoning}
-use Rattle.booking.specs.Booked.{Has, amount_of, unit_of, factor, entry_product, entry_divisor, exact_grams, content, Books}
-use Rattle.booking.specs.Quantities.{QuantityInRange, booked_thousandths}
-use Rattle.booking.specs.Reckonings.{SpanFits, multiplier, divisor, unit_fits}
-use Rattle.booking.specs.Rows.{RowRange, reckoning}
+use Rattle.refusals.specs.declared.refusal.Refusal.TheVariants.{FactorLacking, UnfitUnit, TooLarge}
+use Rattle.refusals.specs.Refusals.{refusal_number, lack_number, Kept, Broken, Least}
+use Rattle.refusals.proofs.Deciding.{least_stop, least_on, told, kept_both, unbroken_number}
+use Rattle.domain.specs.declared.entry.Entry.{Entry}
+use Rattle.domain.specs.declared.factor.FactorNumbers.{FactorNumbers}
+use Rattle.factors.specs.Maps.{Map, has}
+use Rattle.booking.specs.declared.booked.Statement.{Statement}
+use Rattle.booking.specs.Booked.{Has, Told, amount_of, unit_of, asked_of_itself, States, factor, entry_product, exact_grams, factor_asked, unit_asked, product_asked, asked_of_factor, content, booked, Books}
+use Rattle.booking.specs.Reckonings.{unit_fits}
+use Rattle.booking.specs.Rows.{reckoning}
 use Rattle.booking.specs.Weights.{product, ProductRange, exact_divisor, GramsRange}
-use Rattle.booking.proofs.Contents.{span_fails, quantity_fails, factor_fails, unit_fails, product_fails, passes}
-
--- a divisor is no more than the longest span
-pub divisor_range : (k : Reckoning) (s : ℕ) → SpanFits k s → (0 < divisor k s) × (divisor k s ≤ 100)
-divisor_range k s fits = grind arith
-
--- the grams of a weight in range
-pub grams_range : (w d g : ℕ) → ProductRange w → 0 < d → g ≡ rounded w (exact_divisor d) → GramsRange g
-grams_range w d g l h is = subst GramsRange (sym is) (rounded_most w (10000 * d) 100000000000000 (omega arith) (omega arith))
+use Rattle.booking.proofs.Kept.{grams_kept, grams_near}
 
 module _ (y : ℕ) (known : Map) (e : Entry) where
-  -- the exit of a step that is refused, and not for a lack
-  pub refuses : (r : Result Line Refusal) (g f : Refusal) → IsErrAnd r (λ h. h ≡ g) → g ≡ f → (refusal_number f ≡ 8 → ⊥) → Least (content y known e) (refusal_number f) → Books y known e r
-  refuses r g f exit is other least = let x = err_from_is_err_and r exit in rw (x.1, x.2, is) (least, λ n. absurd (other n))
+  -- something that the entry says of itself fails, and a lack is none of that
+  pub itself_refused : (f : Refusal) → Least (asked_of_itself e) (refusal_number f) → Books y known e (Err f)
+  unfolding content
+  itself_refused f least = (
+    least_stop (asked_of_itself e) (asked_of_factor y known e) (refusal_number f) refl least,
+    λ lack. absurd (unbroken_number (asked_of_itself e) lack_number refl (subst (Broken (asked_of_itself e)) lack least.0)),
+  )
 
-  module _ (n : ℕ) (row : RowRange e.head.row) (number : n ≡ e.head.row) (k : Reckoning) (reckons : k ≡ reckoning n) where
-    same : k ≡ reckoning e.head.row
-    same = reckons ∙ ap reckoning number
+  -- its source lacks its factor
+  pub factor_refused : Kept (asked_of_itself e) → (l : Lacking) → Told (factor y known e) e.head.code (Err l) → Books y known e (Err (FactorLacking l))
+  unfolding content
+  factor_refused kept l lack = (
+    told (asked_of_itself e) (unit_asked y known e ∷ product_asked y known e ∷ []) lack_number refl kept (λ h. subst Has lack.1 h),
+    λ _. (l.lacking, lack.1, ap (λ asked. asked ∷ l.lacking ∷ []) lack.0),
+  )
 
-    pub span_refused : (SpanFits k e.head.span → ⊥) → Least (content y known e) 6
-    span_refused fails = span_fails y known e row (subst (λ r. SpanFits r e.head.span → ⊥) same fails)
+-- the entry e is right in itself, stating s, and its source has the factor f
+pub record AtFactor (y : ℕ) (known : Map) (e : Entry) (s : Statement) (f : FactorNumbers) : Type 0 where
+  pub judged : Kept (asked_of_itself e) × States y e s
+  pub found : known e.head.code ≡ has f
 
-    module _ (span : SpanFits k e.head.span) where
-      span_ok : SpanFits (reckoning e.head.row) e.head.span
-      span_ok = subst (λ r. SpanFits r e.head.span) same span
+-- the entry e is right in all, and weighs g grams
+pub record Weighed (y : ℕ) (known : Map) (e : Entry) (g : ℕ) : Type 0 where
+  pub kept : Kept (content y known e)
+  pub grams : g ≡ (booked y known e).grams
+  pub range : GramsRange g
+  pub near : WithinHalf (pos g) (exact_grams y known e)
 
-      pub quantity_refused : (QuantityInRange e.quantity → ⊥) → Least (content y known e) 7
-      quantity_refused fails = quantity_fails y known e row span_ok fails
+-- what is divided to give its grams, as the code has it
+abbrev pub product_of : Statement → FactorNumbers → ℕ
+product_of s f = product s.thousandths f.amount s.terms.multiplier
 
-      module _ (quantity : QuantityInRange e.quantity) where
-        pub lack_refused : (l : ℕ) → known e.head.code ≡ lacks l → Least (content y known e) 8
-        lack_refused l is = factor_fails y known e row span_ok quantity (λ h. subst Has is h)
+module _ {y : ℕ} {known : Map} {e : Entry} {s : Statement} {f : FactorNumbers} (x : AtFactor y known e s f) where
+  says : States y e s
+  says = x.judged.1
 
-        module _ (a u : ℕ) (is : known e.head.code ≡ has a u) where
-          has_ok : Has (factor y known e)
-          has_ok = subst Has (sym is) tt
+  -- what is asked in view of its factor fails, and its factor is not lacking
+  refuses : (r : Refusal) → (refusal_number r ≡ lack_number → ⊥) → Least (asked_of_factor y known e) (refusal_number r) → Books y known e (Err r)
+  unfolding content
+  refuses r other least = (least_on (asked_of_itself e) (asked_of_factor y known e) (refusal_number r) x.judged.0 least, λ lack. absurd (other lack))
 
-          unit_is : unit_fits k u ≡ unit_fits (reckoning e.head.row) (unit_of (factor y known e))
-          unit_is i = unit_fits (same i) (unit_of (sym is i))
+  factor_known : (factor_asked y known e).1
+  factor_known = subst Has (sym x.found) tt
 
-          pub unit_refused : false ≡ unit_fits k u → Least (content y known e) 9
-          unit_refused f = unit_fails y known e row span_ok quantity has_ok (λ t. true≢false (sym (f ∙ unit_is ∙ t)))
+  unit_is : unit_fits s.reckoning f.unit ≡ unit_fits (reckoning e.head.row) (unit_of (factor y known e))
+  unit_is i = unit_fits (says.reckons i) (unit_of (sym x.found i))
 
-          module _ (fits : true ≡ unit_fits k u) (q m d : ℕ) (q_is : q ≡ booked_thousandths e.quantity) (m_is : m ≡ multiplier k y e.head.span) (d_is : d ≡ divisor k e.head.span) where
-            product_is : product q a m ≡ entry_product y known e
-            product_is i = product (q_is i) (amount_of (sym is i)) ((m_is ∙ (λ j. multiplier (same j) y e.head.span)) i)
+  product_is : product_of s f ≡ entry_product y known e
+  product_is i = product (says.counts i) (amount_of (sym x.found i)) (says.multiplies i)
 
-            divisor_is : exact_divisor d ≡ entry_divisor y known e
-            divisor_is i = exact_divisor ((d_is ∙ (λ j. divisor (same j) e.head.span)) i)
+  pub unit_refused : false ≡ unit_fits s.reckoning f.unit → Books y known e (Err UnfitUnit)
+  unit_refused unfit =
+      refuses UnfitUnit (λ lack. omega arith)
+      (told (factor_asked y known e ∷ []) (product_asked y known e ∷ []) (refusal_number UnfitUnit) refl (factor_known, tt) (λ fits. true≢false (sym (unfit ∙ unit_is ∙ fits))))
 
-            unit_ok : IsTrue (unit_fits (reckoning e.head.row) (unit_of (factor y known e)))
-            unit_ok = sym (fits ∙ unit_is)
+  module _ (fits : true ≡ unit_fits s.reckoning f.unit) where
+    unit_fit : (unit_asked y known e).1
+    unit_fit = sym (fits ∙ unit_is)
 
-            pub product_refused : (ProductRange (product q a m) → ⊥) → Least (content y known e) 10
-            product_refused out = product_fails y known e row span_ok quantity has_ok unit_ok (λ l. out (subst ProductRange (sym product_is) l))
+    pub product_refused : (ProductRange (product_of s f) → ⊥) → Books y known e (Err TooLarge)
+    product_refused large =
+        refuses TooLarge (λ lack. omega arith)
+        (told (factor_asked y known e ∷ unit_asked y known e ∷ []) [] (refusal_number TooLarge) refl (factor_known, (unit_fit, tt)) (λ light. large (subst ProductRange (sym product_is) light)))
 
-            -- an entry that passes all conditions, and its grams g
-            pub weighed : ProductRange (product q a m) → (g : ℕ) → g ≡ rounded (product q a m) (exact_divisor d) → Kept (content y known e) × (g ≡ rounded (entry_product y known e) (entry_divisor y known e)) × WithinHalf (pos g) (exact_grams y known e)
-            weighed light g g_is =
-                let h : 0 < entry_divisor y known e = omega (arith, divisor_range (reckoning e.head.row) e.head.span span_ok) in
-                let is = g_is ∙ (λ i. rounded (product_is i) (divisor_is i)) in
-                (passes y known e row span_ok quantity has_ok unit_ok (subst ProductRange product_is light), is, subst (λ n. WithinHalf (pos n) (exact_grams y known e)) (sym is) (rounded_near (entry_product y known e) (entry_divisor y known e) h))
+    pub weighed : {g : ℕ} → ProductRange (product_of s f) × (g ≡ rounded (product_of s f) (exact_divisor s.terms.divisor)) → Weighed y known e g
+    unfolding content
+    weighed {g} grams =
+        let kept : Kept (content y known e) = kept_both (asked_of_itself e) (asked_of_factor y known e) x.judged.0 (factor_known, (unit_fit, (subst ProductRange product_is grams.0, tt))) in
+        let is : g ≡ (booked y known e).grams = grams.1 ∙ (λ i. rounded (product_is i) (exact_divisor (says.divides i))) in
+        record {
+          kept = kept;
+          grams = is;
+          range = subst GramsRange (sym is) (grams_kept y known e kept);
+          near = subst (λ n. WithinHalf (pos n) (exact_grams y known e)) (sym is) (grams_near y known e kept);
+        }

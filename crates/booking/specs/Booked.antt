@@ -1,14 +1,15 @@
 -- What an entry comes to: why it is refused, its line, and its exact weight. Assumes nothing.
-use Rattle.std.specs.Prelude.{◌≡◌, ℕ, IsTrue, [], ◌∷◌, pos, IfErr, Ok, Err, Result}
+use Rattle.std.specs.Prelude.{◌≡◌, ℕ, IsTrue, [], ◌∷◌, ◌++◌, pos, IfErr, Ok, Err, Result}
 use Rattle.exact.specs.Rounding.{Fraction, over, rounded}
 use Rattle.refusals.specs.declared.lacking.Lacking.{Lacking}
 use Rattle.refusals.specs.declared.refusal.Refusal.{Refusal}
 use Rattle.refusals.specs.declared.refusal.Refusal.TheVariants.{UnknownRow, UnfitSpan, UnfitQuantity, UnfitUnit, TooLarge}
 use Rattle.refusals.specs.Refusals.{refusal_number, lack_number, refusal_codes, Conditions, Decided}
 use Rattle.factors.specs.Maps.{Answer, Map, has, lacks}
-use Rattle.codes.specs.Codes.{unit_number}
-use Rattle.feed.specs.declared.factor.Factor.{Factor}
-use Rattle.booking.specs.declared.entry.Entry.{Entry}
+use Rattle.domain.specs.Factors.{factor_numbers}
+use Rattle.domain.specs.declared.entry.Entry.{Entry}
+use Rattle.domain.specs.declared.factor.Factor.{Factor}
+use Rattle.booking.specs.declared.booked.Statement.{Statement}
 use Rattle.booking.specs.declared.line.Line.{Line}
 use Rattle.booking.specs.Quantities.{QuantityInRange, booked_thousandths}
 use Rattle.booking.specs.Reckonings.{SpanFits, multiplier, divisor, unit_fits}
@@ -17,20 +18,20 @@ use Rattle.booking.specs.Weights.{product, ProductRange, exact_divisor}
 
 -- a code has a factor
 abbrev pub Has : Answer → Type 0
-Has (has amount unit) = Unit {0}
+Has (has factor) = Unit {0}
 Has (lacks code) = ⊥
 
 abbrev pub amount_of : Answer → ℕ
-amount_of (has amount unit) = amount
+amount_of (has factor) = factor.amount
 amount_of (lacks code) = 0
 
 abbrev pub unit_of : Answer → ℕ
-unit_of (has amount unit) = unit
+unit_of (has factor) = factor.unit
 unit_of (lacks code) = 0
 
 -- what a source answers for the code c, and what is told of it
 abbrev pub Told : Answer → ℕ → Result Factor Lacking → Type 0
-Told answer c (Ok f) = answer ≡ has f.amount (unit_number f.unit)
+Told answer c (Ok f) = answer ≡ has (factor_numbers f)
 Told answer c (Err l) = (l.asked ≡ c) × (answer ≡ lacks l.lacking)
 
 -- a refusal for want of the factor of the code c names that code, and the one that is lacking
@@ -48,6 +49,28 @@ pub record Booked : Type 0 where
 abbrev pub line_numbers : Line → Booked
 line_numbers l = record { row = row_number l.row; span = l.span; code = l.code; thousandths = l.thousandths; grams = l.grams }
 
+-- what is asked of what an entry says of itself
+module _ (e : Entry) where
+  abbrev pub row_asked : ℕ × Type 0
+  row_asked = (refusal_number UnknownRow, RowRange e.head.row)
+
+  abbrev pub span_asked : ℕ × Type 0
+  span_asked = (refusal_number UnfitSpan, SpanFits (reckoning e.head.row) e.head.span)
+
+  abbrev pub quantity_asked : ℕ × Type 0
+  quantity_asked = (refusal_number UnfitQuantity, QuantityInRange e.quantity)
+
+  abbrev pub asked_of_itself : Conditions
+  asked_of_itself = row_asked ∷ span_asked ∷ quantity_asked ∷ []
+
+-- s is what the entry e says of itself, in a building with a life of y years
+pub record States (y : ℕ) (e : Entry) (s : Statement) : Type 0 where
+  pub row_is : row_number s.row ≡ e.head.row
+  pub reckons : s.reckoning ≡ reckoning e.head.row
+  pub multiplies : s.terms.multiplier ≡ multiplier (reckoning e.head.row) y e.head.span
+  pub divides : s.terms.divisor ≡ divisor (reckoning e.head.row) e.head.span
+  pub counts : s.thousandths ≡ booked_thousandths e.quantity
+
 -- an entry in a building with a life of y years, at the factors of a map
 module _ (y : ℕ) (known : Map) (e : Entry) where
   abbrev pub factor : Answer
@@ -60,16 +83,22 @@ module _ (y : ℕ) (known : Map) (e : Entry) where
   abbrev pub entry_divisor : ℕ
   entry_divisor = exact_divisor (divisor (reckoning e.head.row) e.head.span)
 
+  -- what is asked in view of its factor
+  abbrev pub factor_asked : ℕ × Type 0
+  factor_asked = (lack_number, Has factor)
+
+  abbrev pub unit_asked : ℕ × Type 0
+  unit_asked = (refusal_number UnfitUnit, IsTrue (unit_fits (reckoning e.head.row) (unit_of factor)))
+
+  abbrev pub product_asked : ℕ × Type 0
+  product_asked = (refusal_number TooLarge, ProductRange entry_product)
+
+  abbrev pub asked_of_factor : Conditions
+  asked_of_factor = factor_asked ∷ unit_asked ∷ product_asked ∷ []
+
   -- what is asked of its content
   unfoldable pub content : Conditions
-  content =
-      (refusal_number UnknownRow, RowRange e.head.row)
-      ∷ (refusal_number UnfitSpan, SpanFits (reckoning e.head.row) e.head.span)
-      ∷ (refusal_number UnfitQuantity, QuantityInRange e.quantity)
-      ∷ (lack_number, Has factor)
-      ∷ (refusal_number UnfitUnit, IsTrue (unit_fits (reckoning e.head.row) (unit_of factor)))
-      ∷ (refusal_number TooLarge, ProductRange entry_product)
-      ∷ []
+  content = asked_of_itself e ++ asked_of_factor
 
   -- its exact weight in grams, of its booked thousandths
   abbrev pub exact_grams : Fraction

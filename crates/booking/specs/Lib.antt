@@ -1,5 +1,4 @@
 pub mod Booked
-pub mod Entries
 pub mod Lines
 pub mod Quantities
 pub mod Reckonings

@@ -3,8 +3,8 @@ use Rattle.std.specs.Prelude.{◌≡◌, ℕ, ◌*◌, ◌≤◌, true, pos, uns
 use Rattle.std.specs.Float.{nan, inf, fin}
 use Rattle.std.specs.Float.Ieee.{up, down}
 use Rattle.exact.specs.Rounding.{Fraction, over, nearest}
-use Rattle.booking.specs.declared.quantity.Quantity.{Quantity}
-use Rattle.booking.specs.declared.quantity.Quantity.TheVariants.{Counted, Measured}
+use Rattle.domain.specs.declared.entry.Quantity.{Quantity}
+use Rattle.domain.specs.declared.entry.Quantity.TheVariants.{Counted, Measured}
 
 -- a binary64 number from 0 to 1,000,000: it is m × 2^e, with 2^e written as up e / down e, and negative only where it is zero
 abbrev pub MeasuredInRange : Float → Type 0

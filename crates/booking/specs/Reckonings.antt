@@ -1,6 +1,6 @@
 -- The ways of reckoning: y is the building's life in years, s an entry's span. Assumes nothing.
 use Rattle.std.specs.Prelude.{ℕ, ◌/◌, Bool, not, ◌==◌}
-use Rattle.codes.specs.Ranges.{Within}
+use Rattle.domain.specs.Ranges.{Within}
 use Rattle.booking.specs.declared.reckoning.Reckoning.{Reckoning}
 use Rattle.booking.specs.declared.reckoning.Reckoning.TheVariants.{Once, Hauled, Yearly, Renewed, Refilled}
 

@@ -1,6 +1,6 @@
 -- The twenty-two rows, by their numbers. Assumes nothing.
 use Rattle.std.specs.Prelude.{ℕ, Bool, if◌then◌else◌, ◌&&◌, ◌||◌, ◌==◌, nat_le}
-use Rattle.codes.specs.Ranges.{Within}
+use Rattle.domain.specs.Ranges.{Within}
 use Rattle.booking.specs.declared.reckoning.Reckoning.{Reckoning}
 use Rattle.booking.specs.declared.reckoning.Reckoning.TheVariants.{Once, Hauled, Yearly, Renewed, Refilled}
 use Rattle.booking.specs.declared.row.Row.{Row}

@@ -2,7 +2,6 @@
 #![tactic(auto)]
 
 mod booked;
-mod entry;
 mod line;
 mod measured;
 mod quantity;
@@ -12,9 +11,8 @@ mod rules;
 mod weight;
 
 pub use booked::book;
-pub use entry::Entry;
 pub use line::Line;
-pub use quantity::Quantity;
+pub use quantity::thousandths;
 pub use reckoning::{Reckoning, Terms};
 pub use row::Row;
 pub use rules::{Rule, Stage};

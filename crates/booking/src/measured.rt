@@ -1,9 +1,11 @@
-// A measured quantity by its binary digits, without floating-point arithmetic.
-ghost use Rattle.std.specs.Prelude.{◌^◌, pos};
+// A measured quantity: its range, and what it is by its binary digits, without floating-point arithmetic.
+ghost use Rattle.std.specs.Prelude.{◌^◌, ◌↔◌, IsTrue, pos};
 ghost use Rattle.exact.specs.Rounding.{over, Same};
 ghost use Rattle.booking.specs.Quantities.{MeasuredInRange, measured_thousandths};
 
 use exact::Binary;
+
+const MOST: f64 = 1_000_000.0;
 
 // A binary64 number is a sign, an exponent and the lower 52 of 53 digits.
 const SIGN: u64 = 1 << 63;
@@ -14,6 +16,13 @@ const LEADING_DIGIT: u64 = 1 << DIGITS;
 
 // The smallest numbers have the exponent 0 and no leading digit: they are counted in 2 to the power of -1074.
 const SMALLEST: u32 = 1074;
+
+// Neither comparison with a NaN holds, and an infinity fails one of them.
+pub(crate) fn is_in_range(x: f64) -> bool
+    ensures { IsTrue result ↔ MeasuredInRange x }
+{
+    x >= 0.0 && x <= MOST
+}
 
 // How many thousandths a measured quantity is, exactly.
 pub(crate) fn exact_thousandths(x: f64) -> Binary

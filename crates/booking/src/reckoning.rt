@@ -1,11 +1,11 @@
 // How rows reckon: what they ask of a span and of a unit, and what an entry is multiplied and divided by.
 ghost use Rattle.std.specs.Prelude.{◌≡◌};
-ghost use Rattle.codes.specs.Codes.{unit_number};
+ghost use Rattle.domain.specs.Numbers.{unit_number};
 ghost use Rattle.booking.specs.Reckonings.{SpanFits, multiplier, divisor, unit_fits};
 ghost use Rattle.refusals.specs.declared.refusal.Refusal.TheVariants.{UnfitSpan};
 ghost use Rattle.refusals.specs.Refusals.{Judged};
 
-use codes::FactorUnit;
+use domain::FactorUnit;
 use refusals::Refusal;
 
 const MOST_KILOMETRES: u16 = 10_000;

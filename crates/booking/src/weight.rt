@@ -6,8 +6,8 @@ ghost use Rattle.refusals.specs.declared.refusal.Refusal.TheVariants.{TooLarge};
 ghost use Rattle.refusals.specs.Refusals.{Judged};
 
 use crate::reckoning::Terms;
+use domain::Factor;
 use exact::Ratio;
-use feed::factor::Factor;
 use refusals::Refusal;
 
 const MOST_PRODUCT: u64 = 1_000_000_000_000_000_000;

@@ -2,23 +2,28 @@
 use Rattle.std.specs.Prelude.{ℕ, List, ◌-◌, if◌then◌else◌, ◌&&◌, ◌==◌, nat_lt}
 use Rattle.exact.specs.Rounding.{rounded}
 use Rattle.factors.specs.BuiltIn.{built_in}
-use Rattle.feed.specs.declared.factor.FactorRow.{FactorRow}
+use Rattle.domain.specs.declared.factor.FactorNumbers.{FactorNumbers}
+use Rattle.domain.specs.declared.factor.FactorRow.{FactorRow}
 use Rattle.factors.specs.Lists.{listed}
 use Rattle.factors.specs.Maps.{Answer, Map, has, lacks}
 
 -- a, and where it is a lack, what b has
 abbrev pub or_else : Answer → Answer → Answer
-or_else (has amount unit) b = has amount unit
-or_else (lacks l) (has amount unit) = has amount unit
+or_else (has f) b = has f
+or_else (lacks l) (has f) = has f
 or_else (lacks l) (lacks m) = lacks l
 
 -- what the source below has, and else the built-in factor; where both lack the code, the lack is the one told from below
 abbrev pub with_defaults : Map → Map
 with_defaults below c = or_else (below c) (built_in c)
 
+-- a factor of half the amount
+abbrev pub halved : FactorNumbers → FactorNumbers
+halved f = record { amount = rounded f.amount 2; unit = f.unit }
+
 -- half of a factor per tonne, for the code c; there is none of a factor per anything else
 abbrev pub half : ℕ → Answer → Answer
-half c (has amount unit) = if unit == 1 then has (rounded amount 2) unit else lacks c
+half c (has f) = if f.unit == 1 then has (halved f) else lacks c
 half c (lacks l) = lacks l
 
 -- recycled material has the code of the new material and 1,000,000, and half its amount

@@ -1,13 +1,19 @@
 -- A project's list of factors. Assumes nothing.
-use Rattle.std.specs.Prelude.{Bool, if◌then◌else◌, ◌&&◌, List, [], ◌∷◌, ◌==◌, nat_le}
-use Rattle.feed.specs.declared.factor.FactorRow.{FactorRow}
-use Rattle.factors.specs.Maps.{Map, has, lacks}
+use Rattle.std.specs.Prelude.{ℕ, if◌then◌else◌, ◌&&◌, List, [], ◌∷◌, ◌==◌, Option, Some, None}
+use Rattle.domain.specs.declared.factor.FactorNumbers.{FactorNumbers}
+use Rattle.domain.specs.declared.factor.FactorRow.{FactorRow}
+use Rattle.domain.specs.Factors.{factor_in_range}
+use Rattle.factors.specs.Maps.{Answer, Map, has, lacks}
 
--- a row's amount and unit are in range
-abbrev pub fit : FactorRow → Bool
-fit row = nat_le row.amount 1000000000 && (nat_le 1 row.unit && nat_le row.unit 7)
+-- the factor of a row, if it has the code c and its numbers are in range
+abbrev pub row_factor : FactorRow → ℕ → Option FactorNumbers
+row_factor row c = if row.code == c && factor_in_range row.factor then Some row.factor else None
 
--- the first row that is in range and has the code answers
+abbrev pub or_next : Option FactorNumbers → Answer → Answer
+or_next (Some f) next = has f
+or_next None next = next
+
+-- the first row that has such a factor answers
 abbrev pub listed : List FactorRow → Map
 listed [] c = lacks c
-listed (row ∷ rows) c = if row.code == c && fit row then has row.amount row.unit else listed rows c
+listed (row ∷ rows) c = or_next (row_factor row c) (listed rows c)

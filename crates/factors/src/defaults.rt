@@ -4,7 +4,7 @@ ghost use Rattle.factors.specs.Layers.{with_defaults};
 use crate::lack::Lack;
 use crate::source::FactorSource;
 use crate::table::BuiltIn;
-use feed::factor::Factor;
+use domain::Factor;
 
 #[derive(Clone, Copy, Debug, Drop, PartialEq, Eq)]
 pub struct Defaults<S> {

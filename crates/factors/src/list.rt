@@ -1,9 +1,11 @@
 // A project's own factors.
-ghost use Rattle.factors.specs.Lists.{listed};
+ghost use Rattle.std.specs.Prelude.{◌≡◌, option_map};
+ghost use Rattle.domain.specs.Factors.{factor_numbers};
+ghost use Rattle.factors.specs.Lists.{listed, row_factor};
 
 use crate::lack::Lack;
 use crate::source::FactorSource;
-use feed::factor::{Factor, FactorRow};
+use domain::{Factor, FactorRow};
 
 // Rows in the caller's memory. The first that is in range and has the code answers.
 #[derive(Clone, Copy, Debug, PartialEq, Eq)]
@@ -16,12 +18,21 @@ impl<'a> FactorSource for ProjectList<'a> {
 
     fn factor(&self, code: u32) -> Result<Factor, Lack> {
         for row in self.rows {
-            if row.code == code
-                && let Ok(factor) = Factor::try_from(*row)
-            {
+            if let Some(factor) = factor_of(row, code) {
                 return Ok(factor);
             }
         }
         Err(Lack { code })
     }
+}
+
+// The factor of a row, if it has the code and its numbers are in range.
+#[tactic(auto, using(crate::proofs::Listed::in_range))]
+fn factor_of(row: &FactorRow, code: u32) -> Option<Factor>
+    ensures { option_map factor_numbers result ≡ row_factor row.now code }
+{
+    if row.code != code {
+        return None;
+    }
+    Factor::try_from(row.factor).ok()
 }

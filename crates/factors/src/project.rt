@@ -6,7 +6,7 @@ use crate::lack::Lack;
 use crate::list::ProjectList;
 use crate::recycled::Recycled;
 use crate::source::FactorSource;
-use feed::factor::{Factor, FactorRow};
+use domain::{Factor, FactorRow};
 
 // Recycled material, over the built-in factors, over the rows of the project's own list.
 #[derive(Clone, Copy, Debug, PartialEq, Eq)]

@@ -1,13 +1,12 @@
 // Recycled material, at half of the new material's factor.
-ghost use Rattle.factors.specs.Layers.{with_recycled};
 ghost use Rattle.std.specs.Prelude.{◌≡◌};
-ghost use Rattle.exact.specs.Rounding.{rounded};
+ghost use Rattle.domain.specs.Factors.{factor_numbers};
+ghost use Rattle.factors.specs.Layers.{halved, with_recycled};
 
 use crate::lack::Lack;
 use crate::source::FactorSource;
-use codes::FactorUnit;
+use domain::{Factor, FactorUnit};
 use exact::Ratio;
-use feed::factor::Factor;
 
 // A recycled material has the code of the new one and this.
 const RECYCLED: u32 = 1_000_000;
@@ -35,8 +34,7 @@ impl<S: FactorSource> FactorSource for Recycled<S> {
 }
 
 fn halved(new: Factor) -> Factor
-    ensures amount { result.amount ≡ rounded new.amount 2 }
-    ensures unit { result.unit ≡ new.unit }
+    ensures { factor_numbers result ≡ halved (factor_numbers new) }
 {
     let half = Ratio {
         numerator: i64::from(new.amount),

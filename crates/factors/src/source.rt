@@ -3,7 +3,7 @@ ghost use Rattle.std.specs.Prelude.{◌≡◌};
 ghost use Rattle.factors.specs.Maps.{Map, told};
 
 use crate::lack::Lack;
-use feed::factor::Factor;
+use domain::Factor;
 
 // To every code a source has one answer, a factor or a code that it lacks: its map, which is all that generic code knows of it.
 pub trait FactorSource {

@@ -3,8 +3,7 @@ ghost use Rattle.factors.specs.BuiltIn.{built_in};
 
 use crate::lack::Lack;
 use crate::source::FactorSource;
-use codes::FactorUnit;
-use feed::factor::Factor;
+use domain::{Factor, FactorUnit};
 
 const ELECTRICITY: u32 = 1;
 

@@ -10,7 +10,7 @@ abbrev pub bytes_left : Reader → ℕ
 bytes_left r = length r.feed.now - r.start
 
 -- every note leaves fewer of them
-pub fewer_left : (r : Reader) (p : Part) (t : Reader) → Hands r p t → bytes_left t < bytes_left r
-fewer_left r p t step =
+pub fewer_left : {r : Reader} {p : Part} {t : Reader} → Hands r p t → bytes_left t < bytes_left r
+fewer_left {r} {p} {t} step =
     let whole = ap length step.over in
     omega (arith, t.start_within, step.bytes, whole, (hands_note r p t step).head)

@@ -3,4 +3,5 @@ pub mod Reading
 pub mod Running
 pub mod Ending
 pub mod Beginning
+pub mod Looping
 pub mod Rows

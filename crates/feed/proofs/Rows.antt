@@ -1,12 +1,15 @@
 -- The notes of factor rows that bytes begin with: there is one list of them, and a reader hands them out. Assumes nothing.
-use Rattle.std.proofs.Common.{◌≡◌, ℕ, zero, suc, ◌<◌, ◌⊎◌, List, [], ◌∷◌, length, Some, None, sym, refl, subst, inl, inr, ⊎_elim, arith, length-drop}
-use Rattle.std.proofs.str.Laws.{order}
+use Rattle.std.proofs.Common.{◌≡◌, ℕ, ◌+◌, List, [], ◌∷◌, ◌++◌, Some, None, Result, sym, refl, subst, append-nil}
+use Rattle.refusals.specs.declared.refusal.Refusal.{Refusal}
+use Rattle.domain.specs.declared.factor.FactorRow.{FactorRow}
 use Rattle.feed.specs.declared.reader.Part.{Part}
 use Rattle.feed.specs.declared.reader.Reader.{Reader}
 use Rattle.feed.specs.Feeds.{text, left_of, HandsRow}
-use Rattle.feed.specs.Frames.{RowFirst, RowNotes, row, ended, first_note, after_first, note_kind}
-use Rattle.feed.proofs.Framing.{framed_or_not, length_first}
-use Rattle.feed.proofs.Running.{hands_left}
+use Rattle.feed.specs.Frames.{first_note, after_first}
+use Rattle.feed.specs.Readings.{ReadsFactorRow}
+use Rattle.feed.specs.Rows.{RowNotes, row, ended, RowsRead, none, one}
+use Rattle.feed.proofs.Looping.{Sofar, none_yet, one_more, all}
+use Rattle.feed.proofs.Running.{hands_left, hands_next}
 
 pub rows_only : (bs : List ℕ) (notes notes' : List (List ℕ)) (left left' : List ℕ) → RowNotes bs notes left → RowNotes bs notes' left' → (notes ≡ notes') × (left ≡ left')
 rows_only bs notes notes' left left' (row {notes = ns} first more) (row {notes = ns'} first' more') =
@@ -16,32 +19,33 @@ rows_only bs notes notes' left left' (row first more) (ended other) = absurd (ot
 rows_only bs notes notes' left left' (ended other) (row first more) = absurd (other first)
 rows_only bs notes notes' left left' (ended other) (ended other') = (refl, refl)
 
-row_or_not : (bs : List ℕ) → RowFirst bs ⊎ (RowFirst bs → ⊥)
-row_or_not bs =
-    ⊎_elim
-    (λ framed. ⊎_elim (λ l. inr (λ first. omega (arith, first.1)))
-    (λ least. ⊎_elim (λ l. inr (λ first. omega (arith, first.1))) (λ most. inl (framed, omega arith)) (order 2 (note_kind (first_note bs))))
-    (order (note_kind (first_note bs)) 2))
-    (λ other. inr (λ first. other first.0))
-    (framed_or_not bs)
+-- what reading the factor rows answers that bytes begin with, before what is left
+pub record Answered (left : List ℕ) (bs : List ℕ) (answers : List (Result FactorRow Refusal)) : Type 0 where
+  pub notes : List (List ℕ)
+  pub rows : RowNotes bs notes left
+  pub read : RowsRead notes answers
 
--- any bytes, fewer than n, begin with such a list
-pub rows_of : (n : ℕ) (bs : List ℕ) → length bs < n → (notes : List (List ℕ)) × (left : List ℕ) × RowNotes bs notes left
-rows_of zero bs fewer = absurd (omega (arith, fewer))
-rows_of (suc n) bs fewer =
-    ⊎_elim
-    (λ first.
-    let long = length_first bs first.0 in
-    let more = rows_of n (after_first bs) (omega (arith, fewer, long, first.0.least, first.0.whole, length-drop (length (first_note bs)) bs)) in
-    (first_note bs ∷ more.0, more.1, row first more.2))
-    (λ other. ([], bs, ended other))
-    (row_or_not bs)
+-- a reader has handed out rows since it was `start`, and these were answered
+pub record RowsSofar (start r : Reader) (answers : List (Result FactorRow Refusal)) : Type 0 where
+  pub sofar : (left : List ℕ) → Sofar (λ k at. Answered left) (start.handed + 1) start.start (left_of start) r answers
 
--- a reader hands out the first of them, and comes to the others
-pub row_handed : (r : Reader) (p : Part) (t : Reader) (notes : List (List ℕ)) (left : List ℕ) → HandsRow r (Some p) t → RowNotes (left_of t) notes left → RowNotes (left_of r) (text p ∷ notes) left
-row_handed r p t notes left step more =
-    subst (λ note. RowNotes (left_of r) (note ∷ notes) left) (sym step.1.note) (row step.0 (subst (λ bs. RowNotes bs notes left) (hands_left r p t step.1) more))
+pub no_rows_yet : (r : Reader) {answers : List (Result FactorRow Refusal)} → answers ≡ [] → RowsSofar r r answers
+no_rows_yet r empty = record { sofar = λ left. none_yet (λ k at. Answered left) r empty }
 
--- where it hands out none, there are none
-pub no_row : (r t : Reader) → HandsRow r None t → RowNotes (left_of r) [] (left_of t)
-no_row r t step = rw step.1 (ended step.0)
+module _ {start r : Reader} {answers : List (Result FactorRow Refusal)} (old : RowsSofar start r answers) where
+  pub row_more : {p : Part} {t : Reader} {longer : List (Result FactorRow Refusal)} (a : Result FactorRow Refusal) → HandsRow r (Some p) t → ReadsFactorRow (text p) a → longer ≡ answers ++ (a ∷ []) → RowsSofar start t longer
+  row_more {p} {t} a step reads is =
+      record {
+        sofar = λ left.
+            one_more (λ k at. Answered left) (old.sofar left) (a ∷ []) step.1 is
+            (λ more found. record {
+              notes = text p ∷ found.notes;
+              rows = subst (λ bs. RowNotes bs (text p ∷ found.notes) left) (sym (hands_next r p t step.1))
+                  (subst (λ note. RowNotes (left_of r) (note ∷ found.notes) left) (sym step.1.note) (row step.0 (subst (λ bs. RowNotes bs found.notes left) (hands_left r p t step.1) found.rows)));
+              read = one reads found.read;
+            });
+      }
+
+  pub no_row_more : {t : Reader} → HandsRow r None t → Answered (left_of t) (left_of start) answers
+  no_row_more {t} step =
+      all (λ k at. Answered (left_of t)) (old.sofar (left_of t)) (record { notes = []; rows = rw step.1 (ended step.0); read = none }) (sym (append-nil answers))

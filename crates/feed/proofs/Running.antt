@@ -7,7 +7,7 @@ use Rattle.feed.specs.declared.reader.Part.{Part}
 use Rattle.feed.specs.declared.reader.Reader.{Reader}
 use Rattle.refusals.proofs.Numbers.{number_one}
 use Rattle.feed.specs.Feeds.{Answer, text, left_of, Hands, Stays, Spent, Answered, ReaderRun, opened, called, parts, Placed, Again, Ends, LawfulReader}
-use Rattle.feed.specs.Frames.{Framed, OneNote, after_first}
+use Rattle.feed.specs.Frames.{OneNote, after_first}
 use Rattle.feed.proofs.Framing.{one_first, first_whole}
 
 -- after a note is handed out, what comes after it is left
@@ -23,12 +23,6 @@ hands_note r p t step = subst OneNote (sym step.note) (one_first (left_of r) ste
 
 pub stays_left : (r t : Reader) → Stays r t → left_of t ≡ left_of r
 stays_left r t stays = rw (stays.bytes, stays.over)
-
--- where the answer is no note, none can be framed, and the reader stays
-pub no_note : (r : Reader) (a : Answer) (t : Reader) → ((p : Part) → a ≡ Ok (Some p) → ⊥) → Answered r a t → (Framed (left_of r) → ⊥) × Stays r t
-no_note r (Ok (Some p)) t other step = absurd (other p refl)
-no_note r (Ok None) t other step = (λ framed. let e = ap length step.0 in omega (arith, framed.head), step.1)
-no_note r (Err f) t other step = (step.0.1, step.1)
 
 placed_push : (k at : ℕ) (ps : List Part) (p : Part) → Placed k at ps → p.place ≡ k + length ps → p.start ≡ at + length (flat_map text ps) → Placed k at (ps ++ (p ∷ []))
 placed_push k at [] p placed place start = (omega arith, omega arith, tt)

@@ -1,44 +1,49 @@
--- The fields of what is sent into a sheet: where they lie in a note. Assumes nothing.
-use Rattle.std.specs.Prelude.{◌≡◌, ℕ, ◌⊎◌, List}
-use Rattle.feed.specs.declared.entry.EntryHead.{EntryHead}
+-- An entry: where its fields lie in a note, and what it is booked as. Assumes nothing.
+use Rattle.std.specs.Prelude.{ℕ, ◌+◌, List, Some, None, Option, from_bits}
+use Rattle.std.specs.Float.{binary64}
+use Rattle.domain.specs.declared.entry.Entry.{Entry}
+use Rattle.domain.specs.declared.entry.EntryHead.{EntryHead}
+use Rattle.domain.specs.declared.entry.Quantity.{Quantity}
+use Rattle.domain.specs.declared.entry.Quantity.TheVariants.{Counted as Thousandths, Measured as Units}
 use Rattle.feed.specs.declared.entry.SentEntry.{SentEntry}
 use Rattle.feed.specs.declared.entry.SentQuantity.{SentQuantity}
 use Rattle.feed.specs.declared.entry.SentQuantity.TheVariants.{Counted, Measured}
-use Rattle.feed.specs.declared.entry.Withdrawal.{Withdrawal}
+use Rattle.feed.specs.declared.kind.Kind.{Kind}
+use Rattle.feed.specs.declared.kind.Kind.TheVariants.{Counted as CountedEntry, Measured as MeasuredEntry}
 use Rattle.feed.specs.Fields.{field}
-use Rattle.feed.specs.Frames.{note_kind}
 
--- of an entry and of a withdrawal
-abbrev pub note_number : List ℕ → ℕ
-note_number note = field note 4 4
+-- after the number and the revision come row, span and code, and then the quantity
+abbrev pub row_at : ℕ
+row_at = 12
 
-abbrev pub note_revision : List ℕ → ℕ
-note_revision note = field note 8 4
+abbrev pub span_at : ℕ
+span_at = row_at + 2
+
+abbrev pub code_at : ℕ
+code_at = span_at + 2
+
+abbrev pub quantity_at : ℕ
+quantity_at = code_at + 4
 
 abbrev pub entry_head : List ℕ → EntryHead
-entry_head note = record {
-  number = note_number note;
-  revision = note_revision note;
-  row = field note 12 2;
-  span = field note 14 2;
-  code = field note 16 4;
-}
+entry_head note = record { row = field note row_at 2; span = field note span_at 2; code = field note code_at 4 }
 
--- the entry of a note whose quantity was counted, and of one whose quantity was measured
-abbrev pub counted : List ℕ → SentEntry
-counted note = record { head = entry_head note; quantity = Counted (field note 20 8) }
-
-abbrev pub measured : List ℕ → SentEntry
-measured note = record { head = entry_head note; quantity = Measured (field note 20 8) }
-
--- the entry of a note, whose kind says which form its quantity has
-abbrev pub IsEntry : List ℕ → SentEntry → Type 0
-IsEntry note e = ((note_kind note ≡ 3) × (e ≡ counted note)) ⊎ ((note_kind note ≡ 4) × (e ≡ measured note))
+-- the quantity of a note of a kind, if its kind has one: the kind says which form it has
+abbrev pub kind_quantity : Option Kind → List ℕ → Option SentQuantity
+kind_quantity (Some CountedEntry) note = Some (Counted (field note quantity_at 8))
+kind_quantity (Some MeasuredEntry) note = Some (Measured (field note quantity_at 8))
+kind_quantity kind note = None
 
 -- the kind of the notes that have such a quantity
-abbrev pub entry_kind : SentQuantity → ℕ
-entry_kind (Counted n) = 3
-entry_kind (Measured b) = 4
+abbrev pub entry_kind : SentQuantity → Kind
+entry_kind (Counted n) = CountedEntry
+entry_kind (Measured b) = MeasuredEntry
 
-abbrev pub withdrawal : List ℕ → Withdrawal
-withdrawal note = record { number = note_number note; revision = note_revision note }
+-- a quantity as it is booked: the bits of a measured one are a binary64 number
+abbrev pub quantity_sent : SentQuantity → Quantity
+quantity_sent (Counted n) = Thousandths n
+quantity_sent (Measured b) = Units (from_bits binary64 b)
+
+-- an entry as it is booked
+abbrev pub sent_entry : SentEntry → Entry
+sent_entry e = record { head = e.head; quantity = quantity_sent e.quantity }

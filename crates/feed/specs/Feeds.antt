@@ -3,7 +3,8 @@ use Rattle.std.specs.Prelude.{◌≡◌, ℕ, ◌+◌, ◌<◌, List, [], ◌∷
 use Rattle.std.specs.List.{flat_map}
 use Rattle.feed.specs.declared.reader.Part.{Part}
 use Rattle.feed.specs.declared.reader.Reader.{Reader}
-use Rattle.feed.specs.Frames.{Framed, OneNote, RowFirst, first_note}
+use Rattle.feed.specs.Frames.{Framed, OneNote, first_note}
+use Rattle.feed.specs.Rows.{RowFirst}
 use Rattle.refusals.specs.declared.refusal.Refusal.{Refusal}
 use Rattle.refusals.specs.Refusals.{refusal_number}
 
@@ -57,6 +58,11 @@ abbrev pub Answered : Reader → Answer → Reader → Type 0
 Answered r (Ok (Some p)) t = Hands r p t
 Answered r (Ok None) t = Spent (Ok None) (left_of r) × Stays r t
 Answered r (Err f) t = Spent (Err f) (left_of r) × Stays r t
+
+-- a reader r hands out the next note, if one can be told from what is left, and is t then
+abbrev pub HandsNote : Reader → Option Part → Reader → Type 0
+HandsNote r (Some p) t = Hands r p t
+HandsNote r None t = Stays r t × (Framed (left_of t) → ⊥)
 
 -- a reader r hands out the next note, if it is of the kind of factor rows, and is t then
 abbrev pub HandsRow : Reader → Option Part → Reader → Type 0

@@ -1,5 +1,5 @@
 -- What a note is, before its fields are looked at. Assumes nothing.
-use Rattle.std.specs.Prelude.{◌≡◌, ℕ, ◌≤◌, List, [], ◌∷◌, length, take, drop}
+use Rattle.std.specs.Prelude.{◌≡◌, ℕ, ◌≤◌, List, length, take, drop}
 use Rattle.feed.specs.declared.frame.Head.{Head}
 use Rattle.feed.specs.Fields.{field}
 
@@ -22,19 +22,10 @@ pub record OneNote (note : List ℕ) : Type 0 where
   pub head : 4 ≤ length note
   pub sized : field note 0 2 ≡ length note
 
--- a note's kind: 1 building, 2 factor row, 3 entry, 4 measured entry, 5 withdrawal
+-- the number of a note's kind
 abbrev pub note_kind : List ℕ → ℕ
 note_kind note = field note 2 2
 
 -- the head of a note
 abbrev pub IsHead : List ℕ → Head → Type 0
 IsHead note head = (head.length ≡ length note) × (head.kind ≡ note_kind note)
-
--- the bytes begin with a note of the kind of factor rows
-abbrev pub RowFirst : List ℕ → Type 0
-RowFirst bs = Framed bs × (note_kind (first_note bs) ≡ 2)
-
--- the notes of that kind that bytes begin with, in order, and what is left after them, where no such note comes next
-pub data RowNotes : List ℕ → List (List ℕ) → List ℕ → Type 0 where
-  row : {bs left : List ℕ} {notes : List (List ℕ)} → RowFirst bs → RowNotes (after_first bs) notes left → RowNotes bs (first_note bs ∷ notes) left
-  ended : {bs : List ℕ} → (RowFirst bs → ⊥) → RowNotes bs [] bs

@@ -1,15 +1,20 @@
 -- What a note says, kind by kind. Assumes nothing.
-use Rattle.std.specs.Prelude.{◌≡◌, ℕ, List}
+use Rattle.std.specs.Prelude.{ℕ, List}
+use Rattle.feed.specs.declared.kind.Kind.{Kind}
+use Rattle.feed.specs.declared.kind.Kind.TheVariants.{Building as BuildingNote, Factor as FactorNote}
 use Rattle.feed.specs.declared.note.Note.{Note}
-use Rattle.feed.specs.declared.note.Note.TheVariants.{Building, Factor, Entry, Withdrawal}
+use Rattle.feed.specs.declared.note.Note.TheVariants.{Building, Factor, Sent}
 use Rattle.feed.specs.Buildings.{IsBuilding}
-use Rattle.feed.specs.Entries.{IsEntry, withdrawal}
 use Rattle.feed.specs.Factors.{IsFactorRow}
-use Rattle.feed.specs.Frames.{note_kind}
+use Rattle.feed.specs.Kinds.{IsOf}
+use Rattle.feed.specs.Sendings.{SaysSent}
 
--- what the bytes of a note say: the number of its kind, and its fields
+-- every kind that there is
+abbrev pub AnyKind : Kind → Type 0
+AnyKind kind = Unit {0}
+
+-- what the bytes of a note say: its kind, and its fields
 abbrev pub Says : List ℕ → Note → Type 0
-Says note (Building b) = (note_kind note ≡ 1) × IsBuilding note b
-Says note (Factor row) = (note_kind note ≡ 2) × IsFactorRow note row
-Says note (Entry e) = IsEntry note e
-Says note (Withdrawal w) = (note_kind note ≡ 5) × (w ≡ withdrawal note)
+Says note (Building b) = IsOf BuildingNote note × IsBuilding note b
+Says note (Factor row) = IsOf FactorNote note × IsFactorRow note row
+Says note (Sent s) = SaysSent note s

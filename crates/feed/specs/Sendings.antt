@@ -1,23 +1,41 @@
 -- The notes that are sent into a sheet, and what they say. Assumes nothing.
-use Rattle.std.specs.Prelude.{◌≡◌, ℕ, List}
-use Rattle.codes.specs.Ranges.{Within}
+use Rattle.std.specs.Prelude.{◌≡◌, ℕ, List, Some, None, Option, IsSomeAnd}
+use Rattle.feed.specs.declared.entry.SentQuantity.{SentQuantity}
+use Rattle.feed.specs.declared.kind.Kind.{Kind}
+use Rattle.feed.specs.declared.kind.Kind.TheVariants.{Building, Factor, Withdrawal as WithdrawalNote}
 use Rattle.feed.specs.declared.sent.Sent.{Sent}
-use Rattle.feed.specs.declared.sent.Sent.TheVariants.{Entry, Withdrawal}
-use Rattle.feed.specs.Entries.{IsEntry, withdrawal}
-use Rattle.feed.specs.Frames.{note_kind}
+use Rattle.feed.specs.declared.sent.SentContent.{SentContent}
+use Rattle.feed.specs.declared.sent.SentContent.TheVariants.{Entry, Withdrawal}
+use Rattle.domain.specs.declared.entry.Entry.{Entry as BookedEntry}
+use Rattle.feed.specs.Entries.{entry_head, entry_kind, kind_quantity, sent_entry}
+use Rattle.feed.specs.Fields.{field}
+use Rattle.feed.specs.Kinds.{kind_in}
 
--- entries, counted (3) or measured (4), and withdrawals (5)
-abbrev pub SentKind : ℕ → Type 0
-SentKind k = Within 3 k 5
+-- all kinds but buildings and factor rows
+abbrev pub IsSent : Kind → Type 0
+IsSent Building = ⊥
+IsSent Factor = ⊥
+IsSent kind = Unit {0}
 
+-- what a note says under its number: an entry, if it has a quantity, and else a withdrawal
+abbrev pub content_of : Option SentQuantity → List ℕ → SentContent
+content_of (Some q) note = Entry (record { head = entry_head note; quantity = q })
+content_of None note = Withdrawal
+
+-- what a note says that is sent: its number and its revision come first
+abbrev pub sent_of : List ℕ → Sent
+sent_of note = record { number = field note 4 4; revision = field note 8 4; content = content_of (kind_quantity (kind_in note) note) note }
+
+-- a note is of a kind that is sent, and says s
 abbrev pub SaysSent : List ℕ → Sent → Type 0
-SaysSent note (Entry e) = IsEntry note e
-SaysSent note (Withdrawal w) = (note_kind note ≡ 5) × (w ≡ withdrawal note)
+SaysSent note s = IsSomeAnd (kind_in note) IsSent × (s ≡ sent_of note)
 
-abbrev pub sent_number : Sent → ℕ
-sent_number (Entry e) = e.head.number
-sent_number (Withdrawal w) = w.number
+-- the entry in it as it is booked, if it is one
+abbrev pub entry_in : SentContent → Option BookedEntry
+entry_in (Entry e) = Some (sent_entry e)
+entry_in Withdrawal = None
 
-abbrev pub sent_revision : Sent → ℕ
-sent_revision (Entry e) = e.head.revision
-sent_revision (Withdrawal w) = w.revision
+-- the kind of the notes that say such a thing
+abbrev pub sent_kind : SentContent → Kind
+sent_kind (Entry e) = entry_kind e.quantity
+sent_kind Withdrawal = WithdrawalNote

@@ -1,125 +1,49 @@
-// A building: its climate, its type, its size and its years.
-ghost use Rattle.std.specs.Prelude.{◌≡◌};
-ghost use Rattle.codes.specs.Ranges.{AreaRange, LifeRange, SunRange, ReferenceRange};
+// A note that is a building.
+ghost use Rattle.std.specs.Prelude.{◌≡◌, ◌≤◌, length};
+ghost use Rattle.feed.specs.Buildings.{building_numbers};
+ghost use Rattle.feed.specs.Frames.{Framed, first_note};
+ghost use Rattle.feed.specs.Readings.{ReadsBuilding};
 
-use crate::content::{Content, read};
-use crate::frame::of_length;
+use crate::content::{Content, read, sized};
+use crate::kind::Kind;
 use crate::little::number_at;
-use codes::{BuildingType, Kind, Region};
+use domain::{Building, BuildingNumbers};
 use refusals::Refusal;
 
-const MOST_AREA: u32 = 100_000_000;
-
-const MOST_LIFE: u16 = 100;
-
-const MOST_SUN: u16 = 4;
-
-const MOST_REFERENCE: u16 = 10_000;
-
-// Every building that exists keeps these ranges.
-#[derive(Clone, Copy, Debug, PartialEq, Eq)]
-pub struct Building {
-    // in tenths of a square metre
-    pub area: u32,
-    // in years
-    pub life: u16,
-    pub region: Region,
-    // the class of solar irradiation where it stands: a number, as the classes have no names
-    pub sun: u16,
-    pub building_type: BuildingType,
-    // the reference intensity, in tenths of a kilogram per square metre and year; 0 where there is none: the field's range
-    // has the 0, and an `Option` would only say it another way
-    pub reference: u16,
-    ghost area_within: { AreaRange area },
-    ghost life_within: { LifeRange life },
-    ghost sun_within: { SunRange sun },
-    ghost reference_within: { ReferenceRange reference },
-}
-
-// The numbers of a building as they came: any of them may be out of range or have no name.
-#[derive(Clone, Copy, Debug, PartialEq, Eq)]
-pub struct BuildingNumbers {
-    pub area: u32,
-    pub life: u16,
-    pub region: u16,
-    pub sun: u16,
-    pub building_type: u16,
-    pub reference: u16,
-}
-
-impl Building {
-    ghost use Rattle.feed.specs.Frames.{Framed, first_note};
-    ghost use Rattle.feed.specs.Readings.{ReadsBuilding};
-
-    // The building that the bytes begin with.
-    pub fn read(bytes: &[u8]) -> Result<Building, Refusal>
-        ensures value { ReadsBuilding bytes.now result }
-        ensures alone { Framed bytes.now → ReadsBuilding (first_note bytes.now) result }
-    {
-        read(bytes)
-    }
+// The building that the bytes begin with.
+pub fn read_building(bytes: &[u8]) -> Result<Building, Refusal>
+    ensures value { ReadsBuilding bytes.now result }
+    ensures alone { Framed bytes.now → ReadsBuilding (first_note bytes.now) result }
+{
+    read(bytes)
 }
 
 impl Content for Building {
-    ghost use Rattle.std.proofs.Common.{rules};
     ghost use Rattle.feed.specs.Buildings.{IsBuilding};
+    ghost use Rattle.feed.specs.declared.kind.Kind.TheVariants.{Building};
 
-    ghost Wanted = { λ k. k ≡ 1 };
+    ghost Wanted = { λ kind. kind ≡ Building };
 
     ghost Says = { IsBuilding };
 
-    ghost known = { Prim.search rules };
-
     fn of_note(kind: Kind, note: &[u8]) -> Result<Building, Refusal> {
         match kind {
-            Kind::Building => BuildingNumbers::from_note(of_length(note)?).try_into(),
+            Kind::Building => numbers(sized(kind, note)?).try_into(),
             _ => Err(Refusal::UnwantedKind),
         }
     }
 }
 
-impl BuildingNumbers {
-    ghost use Rattle.feed.specs.Buildings.{building_numbers};
-
-    fn from_note(note: &[u8; 18]) -> BuildingNumbers
-        ensures { result ≡ building_numbers note.now }
-    {
-        BuildingNumbers {
-            area: number_at(note, 4),
-            life: number_at(note, 8),
-            region: number_at(note, 10),
-            sun: number_at(note, 12),
-            building_type: number_at(note, 14),
-            reference: number_at(note, 16),
-        }
-    }
-}
-
-// The building of these numbers, if each is in range.
-impl TryFrom<BuildingNumbers> for Building {
-    ghost use Rattle.feed.specs.Buildings.{numbers_of, BuildingInRange};
-    ghost use Rattle.refusals.specs.declared.refusal.Refusal.TheVariants.{OutOfRange};
-    ghost use Rattle.refusals.specs.Refusals.{Judged};
-
-    type Error = Refusal;
-
-    ghost try_from_gives = { λ n r. Judged (BuildingInRange n) OutOfRange (λ b. numbers_of b ≡ n) r };
-
-    fn try_from(n: BuildingNumbers) -> Result<Building, Refusal> {
-        let fits = (1..=MOST_AREA).contains(&n.area)
-            && (1..=MOST_LIFE).contains(&n.life)
-            && (1..=MOST_SUN).contains(&n.sun)
-            && n.reference <= MOST_REFERENCE;
-        if !fits {
-            return Err(Refusal::OutOfRange);
-        }
-        Ok(Building {
-            area: n.area,
-            life: n.life,
-            region: n.region.try_into()?,
-            sun: n.sun,
-            building_type: n.building_type.try_into()?,
-            reference: n.reference,
-        })
+fn numbers(note: &[u8]) -> BuildingNumbers
+    requires { 18 ≤ length note.now }
+    ensures { result ≡ building_numbers note.now }
+{
+    BuildingNumbers {
+        area: number_at(note, 4),
+        life: number_at(note, 8),
+        region: number_at(note, 10),
+        sun: number_at(note, 12),
+        building_type: number_at(note, 14),
+        reference: number_at(note, 16),
     }
 }

@@ -1,33 +1,31 @@
 // What the first note of given bytes is read as.
-ghost use Rattle.std.specs.Prelude.{◌≡◌, ℕ, List, ◌++◌};
-ghost use Rattle.codes.specs.Codes.{kind_number};
-ghost use Rattle.codes.specs.Ranges.{KindRange};
-ghost use Rattle.feed.specs.Frames.{Framed, first_note, note_kind};
-ghost use Rattle.feed.specs.Readings.{Reads, shape, ranges};
-ghost use Rattle.refusals.specs.Refusals.{Decided};
+ghost use Rattle.std.specs.Prelude.{◌≡◌, List, ℕ, length, Some};
+ghost use Rattle.feed.specs.declared.kind.Kind.{Kind};
+ghost use Rattle.feed.specs.Frames.{Framed, first_note};
+ghost use Rattle.feed.specs.Kinds.{IsOf, note_length};
+ghost use Rattle.feed.specs.Readings.{Reads, form};
+ghost use Rattle.refusals.specs.declared.refusal.Refusal.TheVariants.{WrongLength};
+ghost use Rattle.refusals.specs.Refusals.{Decided, Judged};
 
 use crate::frame::{first_note, kind_of};
-use codes::Kind;
+use crate::kind::Kind;
 use refusals::Refusal;
 
 // What notes of some kinds are read as.
 pub(crate) trait Content: Sized {
     // the kinds that are read
-    ghost Wanted: { ℕ → Type 0 };
+    ghost Wanted: { Kind → Type 0 };
 
     // which value a note gives
     ghost Says: { List ℕ → Self → Type 0 };
 
     // A note's value, where its kind is wanted, its length is its kind's, and its fields are in range.
     fn of_note(kind: Kind, note: &[u8]) -> Result<Self, Refusal>
-        requires { note_kind note.now ≡ kind_number kind }
-        ensures { Decided (shape Wanted note.now ++ ranges note.now) (Says note.now) result };
-
-    // no kind is read that there is not
-    ghost known: { (k : ℕ) → Wanted k → KindRange k };
+        requires { IsOf kind note.now }
+        ensures { Decided (form Wanted (Some kind) note.now) (Says note.now) result };
 }
 
-// The first note of the bytes. Every reading of a note goes through here; its public names are `read` of a building, a factor row and a note.
+// The first note of the bytes. Every reading of a note goes through here; its public names are `read_building`, `read_row`, and `read` of a note and of one that is sent.
 #[tactic(auto, using(crate::proofs::Reading::headed, crate::proofs::Reading::reads_alone))]
 pub(crate) fn read<T: Content>(bytes: &[u8]) -> Result<T, Refusal>
     ensures value { Reads T.Wanted T.Says bytes.now result }
@@ -36,4 +34,15 @@ pub(crate) fn read<T: Content>(bytes: &[u8]) -> Result<T, Refusal>
     let note = first_note(bytes)?;
     let kind = Kind::try_from(kind_of(note))?;
     T::of_note(kind, note)
+}
+
+// The bytes of a note, where they are as many as its kind has.
+pub(crate) fn sized(kind: Kind, note: &[u8]) -> Result<&[u8], Refusal>
+    ensures { Judged (length note.now ≡ note_length kind) WrongLength (λ bytes. bytes.now ≡ note.now) result }
+{
+    if note.len() == kind.length() {
+        Ok(note)
+    } else {
+        Err(Refusal::WrongLength)
+    }
 }

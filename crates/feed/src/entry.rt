@@ -1,26 +1,22 @@
-// The notes that are sent into a sheet, as they came: none of their numbers is judged here.
-ghost use Rattle.std.specs.Prelude.{◌≡◌, ◌⊎◌};
-ghost use Rattle.std.proofs.Common.{rules};
-ghost use Rattle.codes.specs.Codes.{kind_number};
-ghost use Rattle.feed.specs.Entries.{entry_head, entry_kind, IsEntry, withdrawal};
-ghost use Rattle.feed.specs.Fields.{field};
+// An entry as it was sent: none of its numbers is judged here. A measured quantity is kept by its bits, which a floating number would lose.
+ghost use Rattle.std.specs.Prelude.{◌≡◌, ◌≤◌, length, Some};
+ghost use Rattle.feed.specs.declared.kind.Kind.{Kind};
+ghost use Rattle.feed.specs.Entries.{entry_kind, entry_head, kind_quantity, sent_entry};
+ghost use Rattle.feed.specs.Kinds.{note_length};
 
-use crate::content::Content;
-use crate::frame::of_length;
+use crate::kind::Kind;
 use crate::little::number_at;
-use codes::Kind;
-use refusals::Refusal;
+use domain::{Entry, EntryHead, Quantity};
+use std::num::f64_from_bits_with_nan;
 
-// What an entry says before its quantity.
-#[derive(Clone, Copy, Debug, PartialEq, Eq)]
-pub struct EntryHead {
-    pub number: u32,
-    pub revision: u32,
-    // a number, as it may be of no row that there is
-    pub row: u16,
-    pub span: u16,
-    pub code: u32,
-}
+// Where the fields of an entry lie, after its number and its revision.
+const ROW: usize = 12;
+
+const SPAN: usize = ROW + 2;
+
+const CODE: usize = SPAN + 2;
+
+const QUANTITY: usize = CODE + 4;
 
 // How much an entry is for, as it was sent.
 #[derive(Clone, Copy, Debug, PartialEq, Eq)]
@@ -37,91 +33,54 @@ pub struct SentEntry {
     pub quantity: SentQuantity,
 }
 
-// Takes back what was sent under a number.
-#[derive(Clone, Copy, Debug, PartialEq, Eq)]
-pub struct Withdrawal {
-    pub number: u32,
-    pub revision: u32,
-}
-
-impl EntryHead {
-    fn from_note(note: &[u8; 28]) -> EntryHead
-        ensures { result ≡ entry_head note.now }
-    {
-        EntryHead {
-            number: number_at(note, 4),
-            revision: number_at(note, 8),
-            row: number_at(note, 12),
-            span: number_at(note, 14),
-            code: number_at(note, 16),
-        }
-    }
-}
-
 impl SentQuantity {
     // The kind of the notes that have such a quantity.
     pub fn kind(self) -> Kind
-        ensures { kind_number result ≡ entry_kind self }
+        ensures { result ≡ entry_kind self }
     {
         match self {
             SentQuantity::Counted(_) => Kind::Counted,
             SentQuantity::Measured(_) => Kind::Measured,
         }
     }
-}
 
-impl SentEntry {
-    // The entry of a note, its last field being a quantity of this form.
-    fn of_form<F: FnOnce(u64) -> SentQuantity>(form: F, note: &[u8; 28]) -> SentEntry
-        requires { F.pre form (field note.now 20 8) }
-        ensures head { result.head ≡ entry_head note.now }
-        ensures quantity { F.post form (field note.now 20 8) result.quantity }
+    // The quantity of a note of this kind, if its kind has one.
+    pub(crate) fn of_note(kind: Kind, note: &[u8]) -> Option<SentQuantity>
+        requires { length note.now ≡ note_length kind }
+        ensures { result ≡ kind_quantity (Some kind) note.now }
     {
-        SentEntry {
-            head: EntryHead::from_note(note),
-            quantity: form(number_at(note, 20)),
-        }
-    }
-}
-
-impl Content for SentEntry {
-    ghost Wanted = { λ k. (k ≡ 3) ⊎ (k ≡ 4) };
-
-    ghost Says = { IsEntry };
-
-    ghost known = { Prim.search rules };
-
-    fn of_note(kind: Kind, note: &[u8]) -> Result<SentEntry, Refusal> {
         match kind {
-            Kind::Counted => Ok(SentEntry::of_form(SentQuantity::Counted, of_length(note)?)),
-            Kind::Measured => Ok(SentEntry::of_form(SentQuantity::Measured, of_length(note)?)),
-            _ => Err(Refusal::UnwantedKind),
+            Kind::Counted => Some(SentQuantity::Counted(number_at(note, QUANTITY))),
+            Kind::Measured => Some(SentQuantity::Measured(number_at(note, QUANTITY))),
+            Kind::Building | Kind::Factor | Kind::Withdrawal => None,
         }
     }
 }
 
-impl Withdrawal {
-    fn from_note(note: &[u8; 12]) -> Withdrawal
-        ensures { result ≡ withdrawal note.now }
-    {
-        Withdrawal {
-            number: number_at(note, 4),
-            revision: number_at(note, 8),
-        }
+// What an entry says before its quantity.
+pub(crate) fn head(note: &[u8]) -> EntryHead
+    requires { 20 ≤ length note.now }
+    ensures { result ≡ entry_head note.now }
+{
+    EntryHead {
+        row: number_at(note, ROW),
+        span: number_at(note, SPAN),
+        code: number_at(note, CODE),
     }
 }
 
-impl Content for Withdrawal {
-    ghost Wanted = { λ k. k ≡ 5 };
+// The entry as it is booked: the bits of a measured quantity are a number.
+impl From<SentEntry> for Entry {
+    ghost from_gives = { λ e r. r ≡ sent_entry e };
 
-    ghost Says = { λ note w. w ≡ withdrawal note };
-
-    ghost known = { Prim.search rules };
-
-    fn of_note(kind: Kind, note: &[u8]) -> Result<Withdrawal, Refusal> {
-        match kind {
-            Kind::Withdrawal => Ok(Withdrawal::from_note(of_length(note)?)),
-            _ => Err(Refusal::UnwantedKind),
+    fn from(e: SentEntry) -> Entry {
+        let quantity = match e.quantity {
+            SentQuantity::Counted(thousandths) => Quantity::Counted(thousandths),
+            SentQuantity::Measured(bits) => Quantity::Measured(f64_from_bits_with_nan(bits)),
+        };
+        Entry {
+            head: e.head,
+            quantity,
         }
     }
 }

@@ -2,24 +2,27 @@
 ghost use Rattle.std.specs.Prelude.{◌≡◌, ◌≤◌, length};
 ghost use Rattle.feed.specs.Frames.{first_note, note_kind, IsHead};
 ghost use Rattle.feed.specs.Readings.{framing};
-ghost use Rattle.refusals.specs.declared.refusal.Refusal.TheVariants.{WrongLength};
-ghost use Rattle.refusals.specs.Refusals.{Decided, Judged};
+ghost use Rattle.refusals.specs.Refusals.{Decided};
 
 use crate::little::number_at;
 use refusals::Refusal;
 
 // A note's length and its kind, two bytes each, come before its fields.
-const HEAD_LENGTH: usize = 4;
+const LENGTH: usize = 0;
+
+const KIND: usize = 2;
+
+pub(crate) const FIELDS: usize = 4;
 
 // The note that the bytes begin with, as a part of them.
 pub fn first_note(bytes: &[u8]) -> Result<&[u8], Refusal>
     ensures { Decided (framing bytes.now) (λ note. note.now ≡ first_note bytes.now) result }
 {
-    if bytes.len() < HEAD_LENGTH {
+    if bytes.len() < FIELDS {
         return Err(Refusal::Unframed);
     }
-    let len = usize::from(number_at::<2, u16>(bytes, 0));
-    if len < HEAD_LENGTH || len > bytes.len() {
+    let len = usize::from(number_at::<2, u16>(bytes, LENGTH));
+    if len < FIELDS || len > bytes.len() {
         return Err(Refusal::Unframed);
     }
     Ok(&bytes[0..len])
@@ -29,14 +32,7 @@ pub(crate) fn kind_of(note: &[u8]) -> u16
     requires { 4 ≤ length note.now }
     ensures { result ≡ note_kind note.now }
 {
-    number_at(note, 2)
-}
-
-// The bytes of a note, where they are N.
-pub(crate) fn of_length<const N: usize>(note: &[u8]) -> Result<&[u8; N], Refusal>
-    ensures { Judged (length note.now ≡ N) WrongLength (λ bytes. bytes.now ≡ note.now) result }
-{
-    note.try_into().map_err(|_| Refusal::WrongLength)
+    number_at(note, KIND)
 }
 
 // What a note says before its fields.

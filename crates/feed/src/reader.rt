@@ -1,7 +1,7 @@
 // The notes of a feed, one after the other.
 ghost use Rattle.std.specs.Prelude.{ℕ, ◌≤◌, List, ◌∷◌, length};
 
-use crate::factor::FactorRow;
+use crate::factor::row_is_next;
 use crate::frame::first_note;
 use refusals::Refusal;
 
@@ -28,7 +28,7 @@ pub struct Reader<'a> {
 }
 
 impl<'a> Reader<'a> {
-    ghost use Rattle.feed.specs.Feeds.{Opened, Answer, Answered, HandsRow, ReaderRun, LawfulReader, left_of, IsLeft};
+    ghost use Rattle.feed.specs.Feeds.{Opened, Answer, Answered, HandsNote, HandsRow, ReaderRun, LawfulReader, left_of, IsLeft};
 
     pub fn new(feed: &'a [u8]) -> Reader<'a>
         ensures { Opened feed.now result }
@@ -56,11 +56,18 @@ impl<'a> Reader<'a> {
         Ok(Some(Part { bytes, ..left }))
     }
 
+    // The next note, or none where none can be told from what is left: the reader stays then.
+    pub fn next_note(&mut self) -> Option<Part<'a>>
+        ensures { HandsNote self.old result self.new }
+    {
+        self.next().unwrap_or(None)
+    }
+
     // The next note, if it is of the kind of factor rows; else none, and the reader stays.
     pub fn next_row(&mut self) -> Option<Part<'a>>
         ensures { HandsRow self.old result self.new }
     {
-        if FactorRow::is_next(self.left().bytes) {
+        if row_is_next(self.left().bytes) {
             self.next().ok().flatten()
         } else {
             None

@@ -1,6 +1,7 @@
 // Each refusal of a building, of a factor row and of a note, and each field at the ends of its range and one beyond.
-use feed::building::Building;
-use feed::factor::{Factor, FactorRow};
+use domain::{Factor, FactorNumbers};
+use feed::building::read_building;
+use feed::factor::read_row;
 use feed::frame::Head;
 use feed::note::Note;
 use refusals::Refusal;
@@ -62,7 +63,7 @@ fn a_building(rt: HostRuntime) {
     for (at, width, value, expected) in cases {
         let mut note = BUILDING;
         put(&mut note, at, width, value);
-        assert_eq!(rt; refused(Building::read(&note)), expected, "{value}");
+        assert_eq!(rt; refused(read_building(&note)), expected, "{value}");
     }
 }
 
@@ -85,7 +86,7 @@ fn a_factor_row(rt: HostRuntime) {
     for (at, width, value, expected) in cases {
         let mut note = FACTOR;
         put(&mut note, at, width, value);
-        assert_eq!(rt; refused(FactorRow::read(&note)), expected, "{value}");
+        assert_eq!(rt; refused(read_row(&note)), expected, "{value}");
     }
 }
 
@@ -93,11 +94,11 @@ fn a_factor_row(rt: HostRuntime) {
 #[test]
 fn the_smallest_number(rt: HostRuntime) {
     let short = b"\x08\0\x01\0\0\0\0\0";
-    assert_eq!(rt; refused(Building::read(short)), Some(3));
-    assert_eq!(rt; refused(FactorRow::read(short)), Some(2));
+    assert_eq!(rt; refused(read_building(short)), Some(3));
+    assert_eq!(rt; refused(read_row(short)), Some(2));
     assert_eq!(rt; refused(Note::read(short)), Some(3));
-    assert_eq!(rt; refused(Building::read(b"")), Some(1));
-    assert_eq!(rt; refused(FactorRow::read(b"")), Some(1));
+    assert_eq!(rt; refused(read_building(b"")), Some(1));
+    assert_eq!(rt; refused(read_row(b"")), Some(1));
     assert_eq!(rt; refused(Note::read(b"")), Some(1));
     assert_eq!(rt; refused(Head::read(b"\x12\0\x01")), Some(1));
     assert_eq!(rt; refused(Head::read(b"\x03\0\x01\0")), Some(1));
@@ -137,7 +138,7 @@ fn every_kind(rt: HostRuntime) {
 #[test]
 fn trailing_bytes(rt: HostRuntime) -> Result<(), Fail> {
     let bytes = b"\x12\0\x01\0\x10\x27\0\0\x32\0\x02\0\x03\0\x01\0\x09\0\xFF\xFF";
-    let building = Building::read(bytes)?;
+    let building = read_building(bytes)?;
     assert_eq!(rt; building.area, 10_000);
     assert_eq!(rt; building.life, 50);
     assert_eq!(rt; u16::from(building.region), 2);
@@ -145,10 +146,10 @@ fn trailing_bytes(rt: HostRuntime) -> Result<(), Fail> {
     assert_eq!(rt; u16::from(building.building_type), 1);
     assert_eq!(rt; building.reference, 9);
     let bytes = b"\x0E\0\x02\0\x07\0\0\0\xC0\xCF\x6A\0\x01\0\0";
-    let row = FactorRow::read(bytes)?;
+    let row = read_row(bytes)?;
     assert_eq!(rt; row.code, 7);
-    assert_eq!(rt; row.amount, 7_000_000);
-    assert_eq!(rt; row.unit, 1);
+    assert_eq!(rt; row.factor.amount, 7_000_000);
+    assert_eq!(rt; row.factor.unit, 1);
     Ok(())
 }
 
@@ -162,11 +163,7 @@ fn a_plain_row(rt: HostRuntime) {
         (0, 8, Some(4)),
     ];
     for (amount, unit, expected) in cases {
-        let row = FactorRow {
-            code: 1,
-            amount,
-            unit,
-        };
-        assert_eq!(rt; refused(Factor::try_from(row)), expected, "{amount}");
+        let numbers = FactorNumbers { amount, unit };
+        assert_eq!(rt; refused(Factor::try_from(numbers)), expected, "{amount}");
     }
 }

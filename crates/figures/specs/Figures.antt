@@ -3,11 +3,11 @@ use Rattle.std.specs.Prelude.{◌≡◌, ℕ, false, List, [], ◌∷◌, pos, n
 use Rattle.std.specs.Float.{binary64}
 use Rattle.std.specs.Float.Ieee.{round}
 use Rattle.refusals.specs.Refusals.{Kept}
-use Rattle.factors.specs.BuiltIn.{built_in}
+use Rattle.factors.specs.BuiltIn.{factor_of, built_in}
 use Rattle.factors.specs.Layers.{with_recycled}
 use Rattle.factors.specs.Maps.{Map, has}
-use Rattle.booking.specs.declared.entry.Entry.{Entry}
-use Rattle.booking.specs.declared.quantity.Quantity.TheVariants.{Counted, Measured}
+use Rattle.domain.specs.declared.entry.Entry.{Entry}
+use Rattle.domain.specs.declared.entry.Quantity.TheVariants.{Counted, Measured}
 use Rattle.booking.specs.Booked.{content, booked}
 use Rattle.booking.specs.Quantities.{QuantityInRange, booked_thousandths}
 use Rattle.figures.specs.Headings.{Prints}
@@ -16,7 +16,7 @@ use Rattle.figures.specs.Withdrawals.{RefusedBy, NoneCounts, CountsAt}
 -- an entry of so many counted thousandths
 abbrev pub entry_of : (row span code thousandths : ℕ) → Entry
 entry_of row span code thousandths =
-    record { head = record { number = 0; revision = 0; row = row; span = span; code = code }; quantity = Counted thousandths }
+    record { head = record { row = row; span = span; code = code }; quantity = Counted thousandths }
 
 -- it is booked, in a building of y years, at so many grams
 abbrev pub ComesTo : ℕ → Map → Entry → ℕ → Type 0
@@ -31,13 +31,13 @@ Measures n d thousandths =
 -- three headings of 400 grams, and two of 500 and -1,000; of a number that is withdrawn at revision 2, an entry at 1 that is refused, what counts after it, and what counts after one at 3
 abbrev pub figures : List (Type 0)
 figures =
-    ComesTo 1 (λ c. has 5000 1) (entry_of 1 0 7 1) 1
-    ∷ ComesTo 1 (λ c. has 4999 1) (entry_of 1 0 7 1) 0
+    ComesTo 1 (λ c. has (factor_of 5000 1)) (entry_of 1 0 7 1) 1
+    ∷ ComesTo 1 (λ c. has (factor_of 4999 1)) (entry_of 1 0 7 1) 0
     ∷ Measures 625 10000 63
     ∷ Measures 624 10000 62
     ∷ ComesTo 50 built_in (entry_of 21 15 102 1000) 4766667
-    ∷ ComesTo 50 (λ c. has 1290 5) (entry_of 2 500 7 30000) 1935000
-    ∷ (with_recycled (λ c. has 5 1) 1000007 ≡ has 3 1)
+    ∷ ComesTo 50 (λ c. has (factor_of 1290 5)) (entry_of 2 500 7 30000) 1935000
+    ∷ (with_recycled (λ c. has (factor_of 5 1)) 1000007 ≡ has (factor_of 3 1))
     ∷ Prints (pos 400 ∷ (pos 400 ∷ (pos 400 ∷ []))) (pos 0 ∷ (pos 1 ∷ (pos 0 ∷ [])))
     ∷ Prints (pos 500 ∷ (neg_ℤ (pos 1000) ∷ [])) (pos 1 ∷ (neg_ℤ (pos 1) ∷ []))
     ∷ RefusedBy 1 21

@@ -4,8 +4,8 @@ use Rattle.std.specs.Result.{IsErrAnd}
 use Rattle.refusals.specs.declared.refusal.Refusal.{Refusal}
 use Rattle.refusals.specs.Refusals.{refusal_number, Kept}
 use Rattle.factors.specs.Maps.{Map}
-use Rattle.feed.specs.declared.building.BuildingNumbers.{BuildingNumbers}
-use Rattle.booking.specs.declared.entry.Entry.{Entry}
+use Rattle.domain.specs.declared.building.BuildingNumbers.{BuildingNumbers}
+use Rattle.domain.specs.declared.entry.Entry.{Entry}
 use Rattle.sheet.specs.Notes.{Note}
 use Rattle.sheet.specs.Rolls.{note_sent, Counts}
 use Rattle.sheet.specs.States.{State, opened, asked, Sends}

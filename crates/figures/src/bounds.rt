@@ -1,9 +1,7 @@
 // Figures at the ends of the ranges, worked out by hand and compared by booking them.
-use booking::{Entry, Quantity, book};
+use booking::{book, thousandths};
+use domain::{Building, BuildingNumbers, Entry, EntryHead, FactorNumbers, FactorRow, Quantity};
 use factors::{BuiltIn, FactorSource, ProjectList};
-use feed::building::{Building, BuildingNumbers};
-use feed::entry::EntryHead;
-use feed::factor::FactorRow;
 use refusals::Refusal;
 
 // The grams of an entry in a building of so many years, or the number by which it is refused, as the documents have it.
@@ -19,12 +17,9 @@ fn outcome(years: u16, row: u16, quantity: Quantity, amount: u32) -> Result<u64,
     let building = Building::try_from(numbers).map_err(Refusal::number)?;
     let rows = [FactorRow {
         code: 7,
-        amount,
-        unit: 1,
+        factor: FactorNumbers { amount, unit: 1 },
     }];
     let head = EntryHead {
-        number: 1,
-        revision: 0,
         row,
         span: 0,
         code: 7,
@@ -42,8 +37,8 @@ fn outcome(years: u16, row: u16, quantity: Quantity, amount: u32) -> Result<u64,
 fn the_largest_measured_quantity(rt: HostRuntime) {
     let million = Quantity::Measured(1_000_000.0);
     let above = Quantity::Measured(1_000_000.000_000_000_1);
-    assert_eq!(rt; million.thousandths(), Ok(1_000_000_000));
-    assert_eq!(rt; above.thousandths(), Err(Refusal::UnfitQuantity));
+    assert_eq!(rt; thousandths(million), Ok(1_000_000_000));
+    assert_eq!(rt; thousandths(above), Err(Refusal::UnfitQuantity));
     assert_eq!(rt; outcome(50, 1, million, 1), Ok(100_000));
     assert_eq!(rt; outcome(50, 1, above, 1), Err(7));
 }

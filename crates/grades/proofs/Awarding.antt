@@ -1,7 +1,7 @@
 -- That a building is given one grade and no other. Assumes nothing.
 use Rattle.std.proofs.Common.{◌≡◌, ℕ, ◌<◌, inl, inr, ℤ, refl, subst, arith}
 use Rattle.std.proofs.lemmas.Bool.{cases_lt}
-use Rattle.feed.specs.declared.building.BuildingNumbers.{BuildingNumbers}
+use Rattle.domain.specs.declared.building.BuildingNumbers.{BuildingNumbers}
 use Rattle.grades.specs.Grades.{MeetsGrade, Awarded}
 
 module _ (b : BuildingNumbers) (w : ℤ) where

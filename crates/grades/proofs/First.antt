@@ -1,8 +1,8 @@
 -- The row of a table that is for a building, and the rows after it. Assumes nothing.
 use Rattle.std.proofs.Common.{◌≡◌, ℕ, ◌+◌, ◌-◌, ◌<◌, true, false, List, [], ◌∷◌, length, get_or, drop, map, slice_index, Some, None, refl, ◌∙◌}
 use Rattle.std.proofs.lemmas.List.{at_drop_more}
-use Rattle.codes.specs.declared.regions.Region.TheVariants.{SevereCold}
-use Rattle.feed.specs.declared.building.BuildingNumbers.{BuildingNumbers}
+use Rattle.domain.specs.declared.regions.Region.TheVariants.{SevereCold}
+use Rattle.domain.specs.declared.building.BuildingNumbers.{BuildingNumbers}
 use Rattle.grades.specs.declared.limits.LimitRow.{LimitRow}
 use Rattle.grades.specs.Limits.{is_for, limit, row_numbers}
 

@@ -1,10 +1,10 @@
 -- The test of a ratio, as the machine does it. Assumes nothing.
 use Rattle.std.proofs.Common.{◌≡◌, ℕ, ◌-◌, ◌*◌, ◌≤◌, false, ℤ, pos, ◌*ℤ◌, unsigned_abs, FitsSigned, to_z, of_z, w64, refl, arith}
 use Rattle.std.proofs.lemmas.Int.{to_z-of_z, fits_signed_from_abs, fits_signed_mul}
-use Rattle.codes.specs.Codes.{type_number}
-use Rattle.codes.specs.declared.types.BuildingType.{BuildingType}
-use Rattle.codes.specs.declared.types.BuildingType.TheVariants.{Residential}
-use Rattle.codes.specs.contracts.types.BuildingType.{the_type}
+use Rattle.domain.specs.Numbers.{type_number}
+use Rattle.domain.specs.declared.types.BuildingType.{BuildingType}
+use Rattle.domain.specs.declared.types.BuildingType.TheVariants.{Residential}
+use Rattle.domain.specs.contracts.types.BuildingType.{the_type}
 use Rattle.totals.specs.Sizes.{most_size, WithinTotals}
 use denote.Enum.Bare.{sameb}
 use lib.Signed.{le_z}

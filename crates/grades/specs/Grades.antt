@@ -1,6 +1,6 @@
 -- Which grade a building is given. Assumes nothing.
 use Rattle.std.specs.Prelude.{◌≡◌, ℕ, ◌-◌, ◌*◌, ◌<◌, ◌≤◌, Bool, if◌then◌else◌, ◌||◌, ◌==◌, ◌⊎◌, List, Option, Some, None, ℤ, pos, ◌*ℤ◌, ◌≤ℤ◌}
-use Rattle.feed.specs.declared.building.BuildingNumbers.{BuildingNumbers}
+use Rattle.domain.specs.declared.building.BuildingNumbers.{BuildingNumbers}
 use Rattle.totals.specs.Sums.{Sums}
 use Rattle.grades.specs.declared.grading.Grade.{Grade}
 use Rattle.grades.specs.declared.grading.Grade.TheVariants.{Ungraded, LowCarbon, NearZero}

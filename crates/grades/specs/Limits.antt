@@ -1,7 +1,7 @@
 -- The limits of the two grades, in tenths of a kilogram per square metre and year. The figures are those of the zero-carbon draft. Assumes nothing.
 use Rattle.std.specs.Prelude.{ℕ, ◌-◌, Bool, true, if◌then◌else◌, ◌&&◌, ◌==◌, List, [], ◌∷◌, slice_index, Option, Some, None}
-use Rattle.feed.specs.declared.building.BuildingNumbers.{BuildingNumbers}
-use Rattle.codes.specs.Codes.{region_number}
+use Rattle.domain.specs.declared.building.BuildingNumbers.{BuildingNumbers}
+use Rattle.domain.specs.Numbers.{region_number}
 use Rattle.grades.specs.declared.limits.LimitRow.{LimitRow}
 
 -- the limits of a region, one for each type of building; of one sun class, or of every class where none is named

@@ -1,6 +1,6 @@
 // Which grade a building is given.
 ghost use Rattle.std.specs.Prelude.{◌≡◌, ℕ, ◌↔◌, IsTrue};
-ghost use Rattle.feed.specs.Buildings.{numbers_of};
+ghost use Rattle.domain.specs.Buildings.{numbers_of};
 ghost use Rattle.totals.specs.Sums.{sums_of};
 ghost use Rattle.grades.specs.Grades.{grade_number, weight, MeetsGrade, Awarded};
 ghost use Rattle.totals.specs.Sizes.{WithinTotals};
@@ -10,7 +10,7 @@ use crate::grading::Grade;
 use crate::limits::{low_carbon_limit, near_zero_limit};
 use crate::ratios::{low_carbon_ratio, near_zero_ratio};
 use crate::weight::weight;
-use feed::building::Building;
+use domain::Building;
 use totals::Totals;
 
 // The highest grade whose demands the building meets with these totals.

@@ -1,11 +1,10 @@
 // What a grade demands: a limit, or a ratio to the building's reference.
 ghost use Rattle.std.specs.Prelude.{◌≡◌, ◌≤◌, ◌↔◌, IsTrue, pos, unsigned_abs};
-ghost use Rattle.feed.specs.Buildings.{numbers_of};
+ghost use Rattle.domain.specs.Buildings.{numbers_of};
 ghost use Rattle.grades.specs.Grades.{grams_over_life, LimitHolds, RatioHolds, Meets};
 ghost use Rattle.totals.specs.Sizes.{WithinTotals};
 
-use codes::BuildingType;
-use feed::building::Building;
+use domain::{Building, BuildingType};
 
 // Tenths of a kilogram per square metre are so many grams per tenth of a square metre.
 const GRAMS: u64 = 10;

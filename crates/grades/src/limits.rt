@@ -1,10 +1,9 @@
 // The limits of the two grades, and which of them a building has.
 ghost use Rattle.std.specs.Prelude.{◌≡◌, map};
-ghost use Rattle.feed.specs.Buildings.{numbers_of};
+ghost use Rattle.domain.specs.Buildings.{numbers_of};
 ghost use Rattle.grades.specs.Limits.{is_for, limit, low_carbon_limits, near_zero_limits, row_numbers};
 
-use codes::Region;
-use feed::building::Building;
+use domain::{Building, Region};
 
 // The limits of a region, in tenths of a kilogram per square metre and year: one for each type of building, in the order of their numbers.
 // Where no sun class is named, they are those of every class.

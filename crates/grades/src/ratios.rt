@@ -1,9 +1,9 @@
 // The ratios of the two grades: by how many per cent a building has to lie below its reference.
 ghost use Rattle.std.specs.Prelude.{◌≡◌, ◌≤◌};
-ghost use Rattle.codes.specs.Codes.{region_number};
+ghost use Rattle.domain.specs.Numbers.{region_number};
 ghost use Rattle.grades.specs.Ratios.{ratio, low_carbon_ratios, near_zero_ratios};
 
-use codes::Region;
+use domain::Region;
 
 pub(crate) fn low_carbon_ratio(region: Region) -> u16
     ensures value { result ≡ ratio low_carbon_ratios (region_number region) }

@@ -1,12 +1,12 @@
 -- A feed begins with one opening. Assumes nothing.
 use Rattle.std.proofs.Common.{◌≡◌, ℕ, List, ◌∷◌, Ok, Err, Option, sym, refl, ap, subst}
-use Rattle.feed.specs.declared.building.Building.{Building}
-use Rattle.feed.specs.declared.factor.FactorRow.{FactorRow}
+use Rattle.domain.specs.declared.building.Building.{Building}
+use Rattle.domain.specs.declared.factor.FactorRow.{FactorRow}
 use Rattle.feed.specs.Frames.{after_first}
 use Rattle.feed.proofs.Beginning.{building_once, row_once}
 use Rattle.feed.proofs.Rows.{rows_only}
 use Rattle.factors.specs.Layers.{project_map}
-use Rattle.listing.specs.Openings.{FitRows, none, row, passed, Begins, building, no_building, by, basis_with}
+use Rattle.listing.specs.Bases.{FitRows, none, row, passed, Begins, building, no_building, by, basis_with}
 
 fit_only : (notes : List (List ℕ)) (a b : List FactorRow) → FitRows notes a → FitRows notes b → a ≡ b
 fit_only notes a b none none = refl
@@ -19,11 +19,11 @@ fit_only notes a b (passed {notes = ns} f reads more) (passed f' reads' more') =
 
 -- what a feed begins with gives one basis
 pub basis_only : (feed : List ℕ) (a b : Option Building) (rows rows' : List FactorRow) → Begins feed a rows → Begins feed b rows' → basis_with a rows ≡ basis_with b rows'
-basis_only feed a b rows rows' (building {notes = ns} {left = l} x reads run fit) (building {notes = ns'} {left = l'} y reads' run' fit') =
-    let life : x.life ≡ y.life = ap (λ n. n.life) (building_once feed (Ok x) (Ok y) reads reads') in
-    let same = rows_only (after_first feed) ns ns' l l' run run' in
+basis_only feed a b rows rows' (building {notes = ns} {left = l} x opens fit) (building {notes = ns'} {left = l'} y opens' fit') =
+    let life : x.life ≡ y.life = ap (λ n. n.life) (building_once feed (Ok x) (Ok y) opens.building opens'.building) in
+    let same = rows_only (after_first feed) ns ns' l l' opens.rows opens'.rows in
     let list = fit_only ns rows rows' fit (subst (λ n. FitRows n rows') (sym same.0) fit') in
     (λ i. by (life i) (project_map (list i)))
-basis_only feed a b rows rows' (building x reads run fit) (no_building other) = absurd (other x reads)
-basis_only feed a b rows rows' (no_building other) (building x reads run fit) = absurd (other x reads)
+basis_only feed a b rows rows' (building x opens fit) (no_building other) = absurd (other x opens.building)
+basis_only feed a b rows rows' (no_building other) (building x opens fit) = absurd (other x opens.building)
 basis_only feed a b rows rows' (no_building other) (no_building other') = refl

@@ -1,5 +1,5 @@
-mod Runs
+mod Rows
 mod Texts
-mod Listed
+mod Turns
 mod Begun
 mod Only

@@ -1,41 +1,38 @@
 -- A feed has one listing. Assumes nothing.
-use Rattle.std.proofs.Common.{◌≡◌, ℕ, ◌+◌, List, [], ◌∷◌, ◌++◌, length, Some, None, Ok, Err, codes, decimal, Option, Result, sym, refl, ap, ◌∙◌, subst, ⊎_elim, arith, lit≤}
+use Rattle.std.proofs.Common.{◌≡◌, ℕ, ◌+◌, List, [], ◌∷◌, ◌++◌, length, Some, None, Ok, Err, codes, decimal, Option, Result, sym, refl, ap, ◌∙◌, subst, ⊎_elim, arith}
 use Rattle.std.specs.Fmt.{signed_decimal}
 use Rattle.feed.specs.declared.note.Note.{Note}
 use Rattle.refusals.specs.declared.refusal.Refusal.{Refusal}
-use Rattle.booking.specs.declared.entry.Entry.{Entry}
+use Rattle.domain.specs.declared.entry.Entry.{Entry}
 use Rattle.booking.specs.Booked.{Booked as BookedLine}
 use Rattle.booking.specs.Rows.{subtracted}
 use Rattle.booking.specs.Weights.{signed_grams}
 use Rattle.booking.proofs.Single.{books_once, same_codes}
 use Rattle.listing.proofs.Texts.{says_one}
 use Rattle.feed.specs.Frames.{Framed, first_note, note_kind}
-use Rattle.feed.specs.Notes.{Says}
-use Rattle.codes.specs.Ranges.{KindRange}
-use Rattle.codes.specs.Words.{kind_word}
+use Rattle.feed.specs.Kinds.{kind_of}
+use Rattle.feed.specs.Notes.{AnyKind, Says}
+use Rattle.domain.specs.Words.{named}
 use Rattle.feed.specs.Readings.{readable, Reads}
-use Rattle.feed.specs.Words.{named}
-use Rattle.refusals.specs.Refusals.{refusal_number, refusal_codes}
+use Rattle.refusals.specs.Refusals.{lack_number, refusal_codes}
 use Rattle.refusals.specs.Texts.{refusal_said}
 use Rattle.refusals.proofs.Numbers.{no_codes, same_words}
-use Rattle.refusals.proofs.Deciding.{Same, decided_only, broken_up_to}
+use Rattle.refusals.proofs.Deciding.{Same, decided_only, untold}
 use Rattle.feed.proofs.Framing.{framed_front, framed_or_not, front_only}
 use Rattle.listing.specs.declared.outcome.Outcome.{Outcome}
 use Rattle.listing.specs.declared.outcome.Outcome.TheVariants.{Booked, Refused, Unbooked}
-use Rattle.listing.specs.Lines.{entry_of, RefusedSaid, IsOutcome, outcome_said, Weighs, NoteTold, Said, Tells, Line}
-use Rattle.listing.specs.Openings.{Basis, unbooked, by, basis_with}
+use Rattle.listing.specs.Lines.{kind_said, entry_of, RefusedSaid, IsOutcome, outcome_said, IsBooked, booked_said, NoteTold, Said, Tells, Line}
+use Rattle.listing.specs.Bases.{Basis, unbooked, by, basis_with}
 use Rattle.listing.specs.Listings.{LastLine, Lists, note, last, Listing}
 use Rattle.listing.proofs.Begun.{basis_only}
 
--- reading refuses by no number above 4, so its refusals name no codes
-names_none : (bs : List ℕ) (f : Refusal) → Reads {X = Note} KindRange Says bs (Err f) → refusal_codes f ≡ []
-names_none bs f reads =
-    let small = broken_up_to 4 (readable KindRange bs) (lit≤ tt, (lit≤ tt, (lit≤ tt, (lit≤ tt, tt)))) (refusal_number f) reads.0 in
-    no_codes f (λ e. omega arith)
+-- reading refuses for want of no factor, so its refusals name no codes
+names_none : (bs : List ℕ) (f : Refusal) → Reads {X = Note} AnyKind Says bs (Err f) → refusal_codes f ≡ []
+names_none bs f least = no_codes f (untold (readable AnyKind bs) lack_number refl least)
 
 refused_only : (bs : List ℕ) (f g : Refusal) (s t : List ℕ) → refusal_said f ≡ refusal_said g → RefusedSaid bs f s → RefusedSaid bs g t → s ≡ t
 refused_only bs f g s t same a b =
-    ⊎_elim (λ framed. a.note framed ∙ ap (λ x. kind_word (note_kind (first_note bs)) ++ (named (codes "kind", note_kind (first_note bs)) ++ (named (codes "length", length (first_note bs)) ++ (codes " " ++ x)))) same ∙ sym (b.note framed))
+    ⊎_elim (λ framed. a.note framed ∙ ap (λ x. kind_said (kind_of (note_kind (first_note bs))) ++ (named (codes "kind", note_kind (first_note bs)) ++ (named (codes "length", length (first_note bs)) ++ (codes " " ++ x)))) same ∙ sym (b.note framed))
     (λ unframed. a.unframed unframed ∙ ap (λ x. codes "unframed" ++ (named (codes "left", length bs) ++ (codes " " ++ x))) same ∙ sym (b.unframed unframed))
     (framed_or_not bs)
 
@@ -54,18 +51,22 @@ outcome_only (by y known) e (Refused f) (Refused g) is is' = let same = books_on
 outcome_only (by y known) e (Refused f) Unbooked is is' = absurd is'
 outcome_only (by y known) e Unbooked p is is' = absurd is
 
-weighs_only : (a : Basis) (e : Option Entry) (s t : List ℕ) → Weighs a e s → Weighs a e t → s ≡ t
-weighs_only a None s t w v = w ∙ sym v
-weighs_only a (Some e) s t w v = w.text ∙ ap (λ o. codes " " ++ o) (outcome_only a e w.outcome v.outcome w.books v.books) ∙ sym v.text
+booked_only : (a : Basis) (e : Option Entry) (o p : Option Outcome) → IsBooked a e o → IsBooked a e p → booked_said o ≡ booked_said p
+booked_only a None None None is is' = refl
+booked_only a None None (Some p) is is' = absurd is'
+booked_only a None (Some o) p is is' = absurd is
+booked_only a (Some e) None p is is' = absurd is
+booked_only a (Some e) (Some o) None is is' = absurd is'
+booked_only a (Some e) (Some o) (Some p) is is' = ap (λ t. codes " " ++ t) (outcome_only a e o p is is')
 
 note_only : (a : Basis) (bytes : List ℕ) (m n : Note) (s t : List ℕ) → Says bytes m → Says bytes n → NoteTold a m s → NoteTold a n t → s ≡ t
 note_only a bytes m n s t says says' p q =
     let one = says_one bytes m n says says' in
-    let weight = weighs_only a (entry_of m) p.weight q.weight p.weighs (subst (λ e. Weighs a e q.weight) (sym one.1) q.weighs) in
-    p.text ∙ (λ i. one.0 i ++ weight i) ∙ sym q.text
+    let booked = booked_only a (entry_of m) p.outcome q.outcome p.books (subst (λ e. IsBooked a e q.outcome) (sym one.1) q.books) in
+    p.text ∙ (λ i. one.0 i ++ booked i) ∙ sym q.text
 
 -- what is said of bytes depends on them alone
-said_only : (a : Basis) (bs s t : List ℕ) (p q : Result Note Refusal) → Reads KindRange Says bs p → Reads KindRange Says bs q → Same (λ m n. Unit {0}) p q → Said a bs p s → Said a bs q t → s ≡ t
+said_only : (a : Basis) (bs s t : List ℕ) (p q : Result Note Refusal) → Reads AnyKind Says bs p → Reads AnyKind Says bs q → Same (λ m n. Unit {0}) p q → Said a bs p s → Said a bs q t → s ≡ t
 said_only a bs s t (Ok m) (Ok n) reads reads' same said said' = note_only a (first_note bs) m n s t reads.1 reads'.1 said said'
 said_only a bs s t (Ok m) (Err g) reads reads' same said said' = absurd same
 said_only a bs s t (Err f) (Ok n) reads reads' same said said' = absurd same
@@ -75,7 +76,7 @@ said_only a bs s t (Err f) (Err g) reads reads' same said said' =
 
 tells_only : (a : Basis) (bs s t : List ℕ) → Tells a bs s → Tells a bs t → s ≡ t
 tells_only a bs s t x y =
-    let same = decided_only (readable KindRange bs) (Says (first_note bs)) (Says (first_note bs)) (λ m n. Unit {0}) (λ m n p q. tt) x.answer y.answer x.read y.read in
+    let same = decided_only (readable AnyKind bs) (Says (first_note bs)) (Says (first_note bs)) (λ m n. Unit {0}) (λ m n p q. tt) x.answer y.answer x.read y.read in
     said_only a bs s t x.answer y.answer x.read y.read same x.tells y.tells
 
 pub line_only : (a : Basis) (k at : ℕ) (bs l m : List ℕ) → Line a k at bs l → Line a k at bs m → l ≡ m

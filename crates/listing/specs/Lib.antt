@@ -1,4 +1,4 @@
+pub mod Bases
 pub mod Lines
-pub mod Listings
-pub mod Openings
 pub mod Statements
+pub mod Listings

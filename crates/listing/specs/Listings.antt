@@ -1,11 +1,11 @@
 -- The listing of a whole feed. Assumes nothing.
 use Rattle.std.specs.Prelude.{◌≡◌, ℕ, ◌+◌, ◌<◌, List, [], ◌++◌, length, codes, Option}
-use Rattle.feed.specs.declared.building.Building.{Building}
-use Rattle.feed.specs.declared.factor.FactorRow.{FactorRow}
+use Rattle.domain.specs.declared.building.Building.{Building}
+use Rattle.domain.specs.declared.factor.FactorRow.{FactorRow}
 use Rattle.feed.specs.Frames.{Framed, OneNote}
-use Rattle.feed.specs.Words.{named}
+use Rattle.domain.specs.Words.{named}
 use Rattle.listing.specs.Lines.{Line}
-use Rattle.listing.specs.Openings.{Basis, Begins, basis_with}
+use Rattle.listing.specs.Bases.{Basis, Begins, basis_with}
 
 -- the line for what is left after the last note: nothing, or bytes of which it says why they are refused
 pub record LastLine (a : Basis) (k at : ℕ) (bs line : List ℕ) : Type 0 where

@@ -1,8 +1,8 @@
 // A feed in words: a line for each note with what it is booked at, and how the feed ends.
 #![tactic(auto)]
 
+pub mod basis;
 mod lines;
-pub mod opening;
 mod outcome;
 mod statement;
 mod whole;

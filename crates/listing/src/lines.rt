@@ -1,20 +1,20 @@
 // One line of a listing.
 ghost use Rattle.std.specs.Prelude.{◌≡◌, ℕ, List, IfOk, string_bytes};
 ghost use Rattle.listing.specs.Lines.{PartLine};
-ghost use Rattle.listing.specs.Openings.{basis_of};
+ghost use Rattle.listing.specs.Bases.{basis_of};
 
-use crate::opening::Opening;
+use crate::basis::BookingBasis;
 use crate::statement::Statement;
 use feed::reader::Part;
 use std::alloc::{AllocError, Global};
 
 // The line for a part of a feed: what its first note says and is booked at, or by which number it is refused.
-pub fn line(heap: Global, opening: &Opening, part: &Part) -> Result<String, AllocError>
-    ensures value { IfOk result (λ s. PartLine (basis_of opening.now) part.now (string_bytes s)) }
-    ensures only { IfOk result (λ s. (other : List ℕ) → PartLine (basis_of opening.now) part.now other → other ≡ string_bytes s) }
+pub fn line(heap: Global, basis: &BookingBasis, part: &Part) -> Result<String, AllocError>
+    ensures value { IfOk result (λ s. PartLine (basis_of basis.now) part.now (string_bytes s)) }
+    ensures only { IfOk result (λ s. (other : List ℕ) → PartLine (basis_of basis.now) part.now other → other ≡ string_bytes s) }
 {
     let place = part.place;
     let start = part.start;
-    let statement = Statement::of(opening, part.bytes);
+    let statement = Statement::of(basis, part.bytes);
     format!(in heap; "{place} at={start} {statement}\n")
 }

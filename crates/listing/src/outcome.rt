@@ -1,11 +1,14 @@
 // What an entry is booked at.
 ghost use Rattle.std.specs.Prelude.{Some};
-ghost use Rattle.listing.specs.Lines.{IsOutcome, outcome_said};
-ghost use Rattle.listing.specs.Openings.{basis_of};
+ghost use Rattle.listing.specs.Lines.{IsBooked, IsOutcome, entry_of, outcome_said};
+ghost use Rattle.listing.specs.Bases.{basis_of};
 
-use crate::opening::Opening;
-use booking::{Entry, Line, book};
+use crate::basis::BookingBasis;
+use booking::{Line, book};
+use domain::Entry;
 use factors::ProjectFactors;
+use feed::note::Note;
+use feed::sent::{Sent, SentContent};
 use refusals::Refusal;
 use std::fmt;
 
@@ -17,8 +20,23 @@ pub(crate) enum Outcome {
     Unbooked,
 }
 
-impl Opening {
-    pub(crate) fn book(&self, entry: &Entry) -> Outcome
+impl BookingBasis {
+    // What a note is booked at, if it is an entry.
+    pub(crate) fn outcome(&self, note: &Note) -> Option<Outcome>
+        ensures { IsBooked (basis_of self.now) (entry_of note.now) result }
+    {
+        match note {
+            Note::Sent(
+                Sent {
+                    content: SentContent::Entry(entry),
+                    ..
+                },
+            ) => Some(self.book(&(*entry).into())),
+            _ => None,
+        }
+    }
+
+    fn book(&self, entry: &Entry) -> Outcome
         ensures { IsOutcome (basis_of self.now) entry.now result }
     {
         let Some(building) = &self.building else {

@@ -1,24 +1,21 @@
 // What a line states of the first note of bytes.
 ghost use Rattle.std.specs.Prelude.{Some};
 ghost use Rattle.listing.specs.Lines.{Tells};
-ghost use Rattle.listing.specs.Openings.{basis_of};
+ghost use Rattle.listing.specs.Bases.{basis_of};
 ghost use Rattle.listing.specs.Statements.{stated};
 
-use crate::opening::Opening;
+use crate::basis::BookingBasis;
 use crate::outcome::Outcome;
-use codes::Kind;
-use feed::entry::SentEntry;
 use feed::frame::Head;
+use feed::kind::Kind;
 use feed::note::Note;
 use refusals::Refusal;
 use std::fmt;
 
 #[derive(Clone, Copy, Debug, PartialEq, Eq)]
 pub(crate) enum Statement {
-    // what a note says that is no entry
-    Note(Note),
-    // what an entry says, and what it is booked at
-    Entry(SentEntry, Outcome),
+    // what a note says, and what it is booked at if it is an entry
+    Note(Note, Option<Outcome>),
     // why a note is refused
     Refused(Head, Refusal),
     // why no note can be told from so many bytes
@@ -26,12 +23,11 @@ pub(crate) enum Statement {
 }
 
 impl Statement {
-    pub(crate) fn of(opening: &Opening, bytes: &[u8]) -> Statement
-        ensures { Tells (basis_of opening.now) bytes.now (stated result) }
+    pub(crate) fn of(basis: &BookingBasis, bytes: &[u8]) -> Statement
+        ensures { Tells (basis_of basis.now) bytes.now (stated result) }
     {
         match Note::read(bytes) {
-            Ok(Note::Entry(entry)) => Statement::Entry(entry, opening.book(&entry.into())),
-            Ok(note) => Statement::Note(note),
+            Ok(note) => Statement::Note(note, basis.outcome(&note)),
             Err(refusal) => match Head::read(bytes) {
                 Ok(head) => Statement::Refused(head, refusal),
                 Err(_) => Statement::Unframed(bytes.len(), refusal),
@@ -45,8 +41,10 @@ impl fmt::Display for Statement {
 
     fn fmt<W: fmt::Write>(&self, f: &mut fmt::Formatter<W>) -> fmt::Result {
         match self {
-            Statement::Note(note) => write!(f, "{note}"),
-            Statement::Entry(entry, outcome) => write!(f, "{entry} {outcome}"),
+            Statement::Note(note, outcome) => match outcome {
+                Some(outcome) => write!(f, "{note} {outcome}"),
+                None => write!(f, "{note}"),
+            },
             Statement::Refused(head, refusal) => {
                 let kind = head.kind;
                 let length = head.length;

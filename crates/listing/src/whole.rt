@@ -1,10 +1,10 @@
 // The listing of a whole feed.
 ghost use Rattle.std.specs.Prelude.{◌≡◌, ℕ, List, IfOk, string_bytes};
 ghost use Rattle.listing.specs.Listings.{LastLine, Listing};
-ghost use Rattle.listing.specs.Openings.{basis_of};
+ghost use Rattle.listing.specs.Bases.{basis_of};
 
+use crate::basis::BookingBasis;
 use crate::lines::line;
-use crate::opening::Opening;
 use feed::reader::{Part, Reader};
 use std::alloc::{AllocError, Global};
 
@@ -13,27 +13,27 @@ pub fn listing(heap: Global, feed: &[u8]) -> Result<String, AllocError>
     ensures value { IfOk result (λ s. Listing feed.now (string_bytes s)) }
     ensures only { IfOk result (λ s. (other : List ℕ) → Listing feed.now other → other ≡ string_bytes s) }
 {
-    let opening = Opening::read(heap, feed)?;
+    let basis = BookingBasis::read(heap, feed)?;
     let mut text = String::new(heap);
     let mut reader = Reader::new(feed);
-    while let Ok(Some(part)) = reader.next() {
-        let line = line(heap, &opening, &part)?;
+    while let Some(part) = reader.next_note() {
+        let line = line(heap, &basis, &part)?;
         text.push_str(line.as_str())?;
     }
-    let last = last_line(heap, &opening, &reader.left())?;
+    let last = last_line(heap, &basis, &reader.left())?;
     text.push_str(last.as_str())?;
     Ok(text)
 }
 
-// The line for what is left of a feed where no note can be read any more. It takes the heap and the opening as `line` does:
+// The line for what is left of a feed where no note can be read any more. It takes the heap and the basis as `line` does:
 // a struct for the two would be no plainer.
-fn last_line(heap: Global, opening: &Opening, left: &Part) -> Result<String, AllocError>
-    ensures { IfOk result (λ s. LastLine (basis_of opening.now) left.now.place left.now.start left.now.bytes.now (string_bytes s)) }
+fn last_line(heap: Global, basis: &BookingBasis, left: &Part) -> Result<String, AllocError>
+    ensures { IfOk result (λ s. LastLine (basis_of basis.now) left.now.place left.now.start left.now.bytes.now (string_bytes s)) }
 {
     if left.bytes.is_empty() {
         let start = left.start;
         format!(in heap; "end at={start}\n")
     } else {
-        line(heap, opening, left)
+        line(heap, basis, left)
     }
 }

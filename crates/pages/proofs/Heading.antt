@@ -7,7 +7,7 @@ use Rattle.std.proofs.lemmas.List.FromFn.{get_or-range_with_len}
 use Rattle.booking.specs.declared.row.Row.{Row}
 use Rattle.booking.specs.declared.row.Row.TheVariants.{Production, Haulage, MachineEnergy, MachineWater, OfficeEnergy, OfficeWater, TemporaryMaterial, RubbishHaulage, SiteRenewables, SiteGases, EquipmentEnergyBurnt, EquipmentEnergyBought, Water, UserEnergyBurnt, UserEnergyBought, Upkeep, Renewal, Refurbishment, Renewables, Sink, Refrigerant, Demolition}
 use Rattle.booking.specs.Rows.{row_number}
-use Rattle.codes.specs.Ranges.{Within}
+use Rattle.domain.specs.Ranges.{Within}
 use Rattle.pages.specs.Cuts.{Assignment, IsCut}
 use Rattle.pages.specs.Pages.{under}
 use Rattle.totals.specs.Sizes.{most_size}

@@ -1,7 +1,7 @@
 -- That the three cuts are cuts. It stands among the definitions, as each cut names its law, and cuts see no proofs. Assumes nothing.
 use Rattle.std.specs.Prelude.{ℕ}
 use Rattle.std.proofs.Common.{arith}
-use Rattle.codes.specs.Ranges.{Within}
+use Rattle.domain.specs.Ranges.{Within}
 use Rattle.booking.specs.Rows.{stage}
 use Rattle.pages.specs.Cuts.{IsCut, by_row, by_stage, by_type}
 use Rattle.pages.specs.Types.{emission_type}

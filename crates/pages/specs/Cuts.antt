@@ -1,6 +1,6 @@
 -- Cuts: which heading each row has. Assumes nothing.
 use Rattle.std.specs.Prelude.{ℕ}
-use Rattle.codes.specs.Ranges.{Within}
+use Rattle.domain.specs.Ranges.{Within}
 use Rattle.booking.specs.Rows.{RowRange, stage}
 use Rattle.pages.specs.Types.{emission_type}
 

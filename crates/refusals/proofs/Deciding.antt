@@ -1,8 +1,35 @@
--- Which refusal is told: laws of `Decided`. Assumes nothing.
-use Rattle.std.proofs.Common.{◌≡◌, ℕ, ◌<◌, ◌≤◌, ◌⊎◌, [], ◌∷◌, ◌++◌, Ok, Err, Result, refl, inl, inr, ⊎_elim, arith}
+-- Which refusal is told: laws of conditions, and of `Decided`. Assumes nothing.
+use Rattle.std.proofs.Common.{◌≡◌, ℕ, zero, suc, ◌<◌, ◌⊎◌, Bool, true, false, ◌&&◌, not, ◌==◌, nat_lt, List, [], ◌∷◌, ◌++◌, map, Ok, Err, Result, refl, subst, inl, inr, ⊎_elim, arith}
+use Rattle.std.specs.Bool.{IsTrue}
+use Rattle.std.proofs.lemmas.Bool.Decides.{nat_tests}
 use Rattle.std.proofs.str.Laws.{order}
 use Rattle.refusals.specs.declared.refusal.Refusal.{Refusal}
-use Rattle.refusals.specs.Refusals.{refusal_number, Conditions, Kept, Broken, Least, Decided}
+use Rattle.refusals.specs.Refusals.{refusal_number, Conditions, Kept, Broken, Least, Told, Decided}
+
+-- ---- The order of telling
+
+-- the numbers of conditions, in the order in which they stand
+abbrev pub numbers : Conditions → List ℕ
+numbers cs = map (λ c. c.0) cs
+
+abbrev pub all_after : ℕ → List ℕ → Bool
+all_after n [] = true
+all_after n (m ∷ ms) = nat_lt n m && all_after n ms
+
+-- conditions stand in the order in which they are told: every number is before all that come after it
+abbrev pub in_order : List ℕ → Bool
+in_order [] = true
+in_order (n ∷ ns) = all_after n ns && in_order ns
+
+abbrev pub InOrder : Conditions → Type 0
+InOrder cs = IsTrue (in_order (numbers cs))
+
+-- the number n is not among these
+abbrev pub without : ℕ → List ℕ → Bool
+without n [] = true
+without n (m ∷ ms) = not (m == n) && without n ms
+
+-- ---- Lists of conditions, one after the other
 
 pub kept_both : (cs ds : Conditions) → Kept cs → Kept ds → Kept (cs ++ ds)
 kept_both [] ds k l = l
@@ -35,14 +62,34 @@ broken_right : (cs ds : Conditions) (n : ℕ) → Broken ds n → Broken (cs ++ 
 broken_right [] ds n b = b
 broken_right (c ∷ cs) ds n b = inr (broken_right cs ds n b)
 
--- the number k is below those of all the conditions
-abbrev pub BelowAll : ℕ → Conditions → Type 0
-BelowAll k [] = Unit {0}
-BelowAll k (c ∷ cs) = (k < c.0) × BelowAll k cs
+-- no condition has a number that is not among theirs
+pub unbroken_number : (cs : Conditions) (n : ℕ) → IsTrue (without n (numbers cs)) → Broken cs n → ⊥
+unbroken_number [] n w b = b
+unbroken_number (c ∷ cs) n w (inl e) = grind (arith, nat_tests)
+unbroken_number (c ∷ cs) n w (inr b) = unbroken_number cs n (grind (arith, nat_tests)) b
 
-pub unbroken_below : (k : ℕ) (cs : Conditions) → BelowAll k cs → (n : ℕ) → n < k → Broken cs n → ⊥
-unbroken_below k [] below n l b = b
-unbroken_below k (c ∷ cs) below n l b = ⊎_elim (λ e. omega (arith, e.0, below.0)) (unbroken_below k cs below.1 n l) b
+-- nor is such a number told
+pub untold : (cs : Conditions) (n : ℕ) → IsTrue (without n (numbers cs)) → {k : ℕ} → Least cs k → k ≡ n → ⊥
+untold cs n w least is = unbroken_number cs n w (subst (Broken cs) is least.0)
+
+-- what fails of conditions that all come after the number n comes after it
+after : (n : ℕ) (cs : Conditions) → IsTrue (all_after n (numbers cs)) → (k : ℕ) → Broken cs k → n < k
+after n [] a k b = absurd b
+after n (c ∷ cs) a k (inl e) = grind (arith, nat_tests)
+after n (c ∷ cs) a k (inr b) = after n cs (grind (arith, nat_tests)) k b
+
+after_right : (n : ℕ) (cs ds : Conditions) → IsTrue (all_after n (numbers (cs ++ ds))) → IsTrue (all_after n (numbers ds))
+after_right n [] ds a = a
+after_right n (c ∷ cs) ds a = after_right n cs ds (grind (arith, nat_tests))
+
+-- of lists in their order, what fails of the first comes before what fails of the second
+pub earlier : (cs ds : Conditions) → InOrder (cs ++ ds) → (m k : ℕ) → Broken cs m → Broken ds k → m < k
+earlier [] ds o m k b d = absurd b
+earlier (c ∷ cs) ds o m k (inl e) d =
+    let later = after c.0 ds (after_right c.0 cs ds (grind (arith, nat_tests))) k d in omega (arith, e.0, later)
+earlier (c ∷ cs) ds o m k (inr b) d = earlier cs ds (grind (arith, nat_tests)) m k b d
+
+-- ---- Which one is told
 
 -- conditions that hold play no part
 pub least_on : (cs ds : Conditions) (n : ℕ) → Kept cs → Least ds n → Least (cs ++ ds) n
@@ -53,33 +100,72 @@ least_off : (cs ds : Conditions) (n : ℕ) → Kept cs → Least (cs ++ ds) n �
 least_off cs ds n kept d =
     (⊎_elim (λ b. absurd (unbroken cs kept n b)) (λ b. b) (broken_either cs ds n d.0), λ m l b. d.1 m l (broken_right cs ds m b))
 
--- the numbers of all the conditions are at most k
-abbrev pub UpTo : ℕ → Conditions → Type 0
-UpTo k [] = Unit {0}
-UpTo k (c ∷ cs) = (c.0 ≤ k) × UpTo k cs
+-- nor do those that are told later
+pub least_stop : (cs ds : Conditions) (n : ℕ) → InOrder (cs ++ ds) → Least cs n → Least (cs ++ ds) n
+least_stop cs ds n o d =
+    (broken_left cs ds n d.0, λ m l b. ⊎_elim (d.1 m l) (λ e. let later = earlier cs ds o n m d.0 e in omega arith) (broken_either cs ds m b))
 
-pub broken_up_to : (k : ℕ) (cs : Conditions) → UpTo k cs → (n : ℕ) → Broken cs n → n ≤ k
-broken_up_to k [] up n b = absurd b
-broken_up_to k (c ∷ cs) up n b = ⊎_elim (λ e. omega (arith, e.0, up.0)) (broken_up_to k cs up.1 n) b
-
--- conditions of larger numbers play no part
-pub least_stop : (cs ds : Conditions) (k n : ℕ) → UpTo k cs → BelowAll k ds → Least cs n → Least (cs ++ ds) n
-least_stop cs ds k n up below d =
-    let small = broken_up_to k cs up n d.0 in
-    (broken_left cs ds n d.0, λ m l b. ⊎_elim (d.1 m l) (unbroken_below k ds below m (omega arith)) (broken_either cs ds m b))
-
--- the first condition fails, and those after it have larger numbers
-pub least_here : {P : Type 0} (n : ℕ) (cs : Conditions) → (P → ⊥) → BelowAll n cs → Least ((n, P) ∷ cs) n
-least_here n cs fails below = (inl (refl, fails), λ m l b. ⊎_elim (λ e. omega (arith, e.0)) (unbroken_below n cs below m l) b)
-
--- the first condition holds, and n is the smallest number of those after it that fail
-pub least_past : {P : Type 0} (m n : ℕ) (cs : Conditions) → P → Least cs n → Least ((m, P) ∷ cs) n
-least_past {P} m n cs holds least = least_on ((m, P) ∷ []) cs n (holds, tt) least
+-- of conditions in their order one fails, and those before it hold: it is told
+pub told : (before after : Conditions) (n : ℕ) {P : Type 0} → InOrder (before ++ ((n, P) ∷ after)) → Kept before → (P → ⊥) → Least (before ++ ((n, P) ∷ after)) n
+told before after n {P} o kept fails =
+    least_on before ((n, P) ∷ after) n kept
+    (inl (refl, fails), λ m l b. ⊎_elim (λ e. omega (arith, e.0)) (λ later. let l' = after_in before o m later in omega arith) b)
+  where
+    after_in : (bs : Conditions) → InOrder (bs ++ ((n, P) ∷ after)) → (m : ℕ) → Broken after m → n < m
+    after_in bs o m b = earlier ((n, P) ∷ []) after (right bs o) n m (inl (refl, fails)) b
+      where
+        right : (bs : Conditions) → InOrder (bs ++ ((n, P) ∷ after)) → InOrder ((n, P) ∷ after)
+        right [] o = o
+        right (b ∷ bs) o = right bs (grind (arith, nat_tests))
 
 -- no two numbers are the smallest
 pub least_only : (cs : Conditions) (m n : ℕ) → Least cs m → Least cs n → m ≡ n
 least_only cs m n a b =
     ⊎_elim (λ l. absurd (b.1 m l a.0)) (λ l. ⊎_elim (λ l'. absurd (a.1 n l' b.0)) (λ l'. omega arith) (order n m)) (order m n)
+
+-- the one or the other, by a test
+abbrev pub either : Bool → Type 0 → Type 0 → Type 0
+either true A B = A
+either false A B = B
+
+-- what conditions ask by the number n
+abbrev pub asked_by : ℕ → Conditions → Type 0
+asked_by n [] = Unit {0}
+asked_by n (c ∷ cs) = either (c.0 == n) c.1 (asked_by n cs)
+
+one_of : {A B : Type 0} (t : Bool) → A → B → either t A B
+one_of true a b = a
+one_of false a b = b
+
+-- of conditions that hold, the one by the number n
+pub kept_by : (n : ℕ) (cs : Conditions) → Kept cs → asked_by n cs
+kept_by n [] k = tt
+kept_by n (c ∷ cs) k = one_of (c.0 == n) k.0 (kept_by n cs k.1)
+
+-- ---- Answers
+
+pub above_zero : (f : Refusal) → 0 < refusal_number f
+above_zero f = grind arith
+
+-- a value is answered by 0, and a refusal by its number
+pub told_kept : (cs : Conditions) → Kept cs → Told cs 0
+told_kept cs kept = record { kept = λ zero. kept; least = λ more. absurd (omega arith) }
+
+pub told_least : (cs : Conditions) (f : Refusal) → Least cs (refusal_number f) → Told cs (refusal_number f)
+told_least cs f least = record { kept = λ zero. absurd (omega (arith, above_zero f)); least = λ more. least }
+
+pub least_told : (cs : Conditions) (f : Refusal) → Told cs (refusal_number f) → Least cs (refusal_number f)
+least_told cs f told = told.least (above_zero f)
+
+one_number : (cs : Conditions) (m n : ℕ) → Told cs m → Told cs n → m ≡ n
+one_number cs zero zero p q = refl
+one_number cs zero (suc n) p q = absurd (unbroken cs (p.kept refl) (suc n) (q.least (omega arith)).0)
+one_number cs (suc m) zero p q = absurd (unbroken cs (q.kept refl) (suc m) (p.least (omega arith)).0)
+one_number cs (suc m) (suc n) p q = least_only cs (suc m) (suc n) (p.least (omega arith)) (q.least (omega arith))
+
+-- conditions are answered by one number
+pub told_only : (cs : Conditions) {m n : ℕ} → Told cs m → Told cs n → m ≡ n
+told_only cs {m = m} {n = n} = one_number cs m n
 
 -- two answers are the same: values that R relates, or refusals by one number
 abbrev pub Same : {X : Type 0} → (X → X → Type 0) → Result X Refusal → Result X Refusal → Type 0

@@ -49,6 +49,16 @@ Broken (c ∷ cs) n = ((n ≡ c.0) × (c.1 → ⊥)) ⊎ Broken cs n
 abbrev pub Least : Conditions → ℕ → Type 0
 Least cs n = Broken cs n × ((m : ℕ) → m < n → Broken cs m → ⊥)
 
+-- the number of a call's answer: 0 where it gives a value, and else that of its refusal
+abbrev pub answer_number : {X : Type 0} → Result X Refusal → ℕ
+answer_number (Ok x) = 0
+answer_number (Err f) = refusal_number f
+
+-- a call answers by the number n to what it asks for: 0 where all conditions hold, and else the smallest number of one that fails
+pub record Told (cs : Conditions) (n : ℕ) : Type 0 where
+  pub kept : n ≡ 0 → Kept cs
+  pub least : 0 < n → Least cs n
+
 -- a call gives a value, of which Q holds, where all conditions hold, and else refuses by the smallest number
 abbrev pub Decided : {X : Type 0} → Conditions → (X → Type 0) → Result X Refusal → Type 0
 Decided cs Q (Ok x) = Kept cs × Q x

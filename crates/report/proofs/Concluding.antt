@@ -1,7 +1,7 @@
 -- The account of a project, from what was written of its calls. Assumes nothing.
 use Rattle.std.proofs.Common.{◌≡◌, ℕ, List, [], ◌∷◌, ◌++◌, take, reverse, Ok, refl, ◌∙◌, subst, append_assoc}
 use Rattle.factors.specs.Layers.{project_map}
-use Rattle.feed.specs.declared.factor.FactorRow.{FactorRow}
+use Rattle.domain.specs.declared.factor.FactorRow.{FactorRow}
 use Rattle.pages.specs.Cuts.{by_stage}
 use Rattle.sheet.specs.Accounts.{sendings}
 use Rattle.sheet.specs.Histories.{Grades, paged, graded, page, grade}
@@ -35,7 +35,7 @@ concludes c text a =
     let known = project_map c.rows in
     let calls = sendings a.calls.answered in
     let page_call = paged by_stage a.places (Ok a.total) a.after in
-    let law = lawful c.building known (graded a.grade ∷ (page_call ∷ calls)) a.calls.last a.calls.run in
+    let law = lawful c.building known a.calls.run in
     let bytes = bytes_are a.calls.answered (reverse a.sends) a.calls.sent in
     record {
       sends = a.sends;

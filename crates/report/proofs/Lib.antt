@@ -1,4 +1,4 @@
-mod Listed
+mod Rows
 mod Opening
 mod Sent
 mod Headings

@@ -2,18 +2,19 @@
 use Rattle.std.proofs.Common.{◌≡◌, ℕ, ◌+◌, List, [], ◌∷◌, ◌++◌, length, get_or, drop, map, reverse, take, codes, decimal, Ok, Err, Result, sym, refl, ap, ◌∙◌, subst, arith}
 use Rattle.refusals.specs.declared.refusal.Refusal.{Refusal}
 use Rattle.refusals.specs.Refusals.{refusal_number}
-use Rattle.refusals.proofs.Deciding.{Same, decided_only, least_only, unbroken}
+use Rattle.refusals.proofs.Deciding.{Same, decided_only, least_only, unbroken, told_only, above_zero}
 use Rattle.factors.specs.Maps.{Map}
-use Rattle.feed.specs.declared.building.BuildingNumbers.{BuildingNumbers}
-use Rattle.feed.specs.declared.factor.FactorRow.{FactorRow}
-use Rattle.feed.specs.Buildings.{numbers_of}
+use Rattle.domain.specs.declared.building.BuildingNumbers.{BuildingNumbers}
+use Rattle.domain.specs.declared.factor.FactorRow.{FactorRow}
+use Rattle.domain.specs.Buildings.{numbers_of}
 use Rattle.feed.specs.Factors.{IsFactorRow}
+use Rattle.domain.specs.declared.building.Building.{Building}
 use Rattle.feed.specs.Frames.{Framed, OneNote, first_note, after_first}
+use Rattle.feed.specs.Openings.{OpensWith}
 use Rattle.feed.proofs.Beginning.{building_once}
 use Rattle.feed.proofs.Framing.{framed_front, front_only}
 use Rattle.feed.proofs.Rows.{rows_only}
-use Rattle.sheet.specs.States.{State, asked, line_sent, with_line, Sends}
-use Rattle.sheet.specs.Placing.{placing}
+use Rattle.sheet.specs.States.{State, send_asked, Sends}
 use Rattle.sheet.specs.Accounts.{sendings}
 use Rattle.sheet.proofs.Accounting.{bytes_are}
 use Rattle.sheet.specs.Histories.{Run, paged, graded, new, send, page, grade, sends, Pages, Grades}
@@ -29,8 +30,7 @@ use Rattle.report.specs.Calls.{said, send_said}
 use Rattle.report.specs.Lines.{denied_line, page_lines, grade_line}
 use Rattle.report.specs.Reports.{Reports, denied, account, LawfulReport}
 use Rattle.report.proofs.Concluding.{concludes}
-use Rattle.report.proofs.Listed.{with_left}
-use Rattle.report.specs.Projects.{sized, row_asked, ReadsRow, ProjectParts, with_row, TakesRows, all, row, refused, Opens, too_long, no_building, building}
+use Rattle.report.specs.Projects.{sized, row_asked, ReadsRow, ProjectParts, parts, TakesRows, all, row, refused, Opens, too_long, no_building, row_refused, project}
 
 -- bytes that begin with a note are not of those that begin with none, and are not empty
 begins : (n rest bs : List ℕ) → OneNote n → bs ≡ n ++ rest → Framed bs
@@ -55,39 +55,58 @@ sends_of_only bs a b (note {more = xs} n rest one cut more) (note {more = ys} n'
 row_once : (n : ℕ) (bs : List ℕ) (r s : Result FactorRow Refusal) → ReadsRow n bs r → ReadsRow n bs s → Same ◌≡◌ r s
 row_once n bs = decided_only (row_asked n bs) (IsFactorRow (first_note bs)) (IsFactorRow (first_note bs)) ◌≡◌ (λ a b is is'. is ∙ sym is')
 
-takes_only : (c : ProjectParts) (notes : List (List ℕ)) (a b : Result ProjectParts Refusal) → TakesRows c notes a → TakesRows c notes b → Same ◌≡◌ a b
-takes_only c notes a b all all = refl
-takes_only c notes a b (row {note = n} {notes = ns} x reads more) (row y reads' more') =
-    let same = row_once (length c.rows) n (Ok x) (Ok y) reads reads' in
-    takes_only (with_row c x) ns a b more (subst (λ z. TakesRows (with_row c z) ns b) (sym same) more')
-takes_only c notes a b (row {note = n} x reads more) (refused {f = f} reads') = absurd (row_once (length c.rows) n (Ok x) (Err f) reads reads')
-takes_only c notes a b (refused {note = n} {f = f} reads) (row x reads' more) = absurd (row_once (length c.rows) n (Err f) (Ok x) reads reads')
-takes_only c notes a b (refused {note = n} {f = f} reads) (refused {f = g} reads') = row_once (length c.rows) n (Err f) (Err g) reads reads'
+takes_only : (rows : List FactorRow) (notes : List (List ℕ)) (a b : Result (List FactorRow) Refusal) → TakesRows rows notes a → TakesRows rows notes b → Same ◌≡◌ a b
+takes_only rows notes a b all all = refl
+takes_only rows notes a b (row {note = n} {notes = ns} x reads more) (row y reads' more') =
+    let same = row_once (length rows) n (Ok x) (Ok y) reads reads' in
+    takes_only (rows ++ (x ∷ [])) ns a b more (subst (λ z. TakesRows (rows ++ (z ∷ [])) ns b) (sym same) more')
+takes_only rows notes a b (row {note = n} x reads more) (refused {f = f} reads') = absurd (row_once (length rows) n (Ok x) (Err f) reads reads')
+takes_only rows notes a b (refused {note = n} {f = f} reads) (row x reads' more) = absurd (row_once (length rows) n (Err f) (Ok x) reads reads')
+takes_only rows notes a b (refused {note = n} {f = f} reads) (refused {f = g} reads') = row_once (length rows) n (Err f) (Err g) reads reads'
+
+-- what a feed opens with is one: its building by its numbers, its notes, and what is left
+opens_with_only : {feed : List ℕ} {b c : Building} {notes notes' : List (List ℕ)} {left left' : List ℕ} → OpensWith feed b notes left → OpensWith feed c notes' left' → (numbers_of b ≡ numbers_of c) × (notes ≡ notes') × (left ≡ left')
+opens_with_only {feed} {b} {c} {notes} {notes'} {left} {left'} p q =
+    let same = rows_only (after_first feed) notes notes' left left' p.rows q.rows in
+    (building_once feed (Ok b) (Ok c) p.building q.building, same.0, same.1)
 
 pub opens_only : (feed : List ℕ) (a b : Result ProjectParts Refusal) → Opens feed a → Opens feed b → Same ◌≡◌ a b
 opens_only feed a b (too_long {f = f} long) (too_long {f = g} long') = least_only (sized feed) (refusal_number f) (refusal_number g) long long'
 opens_only feed a b (too_long {f = f} long) (no_building short reads) = absurd (unbroken (sized feed) short (refusal_number f) long.0)
-opens_only feed a b (too_long {f = f} long) (building x short reads run takes) = absurd (unbroken (sized feed) short (refusal_number f) long.0)
+opens_only feed a b (too_long {f = f} long) (row_refused short opens takes) = absurd (unbroken (sized feed) short (refusal_number f) long.0)
+opens_only feed a b (too_long {f = f} long) (project short opens takes) = absurd (unbroken (sized feed) short (refusal_number f) long.0)
 opens_only feed a b (no_building short reads) (too_long {f = f} long) = absurd (unbroken (sized feed) short (refusal_number f) long.0)
 opens_only feed a b (no_building {f = f} short reads) (no_building {f = g} short' reads') = building_once feed (Err f) (Err g) reads reads'
-opens_only feed a b (no_building {f = f} short reads) (building x short' reads' run takes) = absurd (building_once feed (Err f) (Ok x) reads reads')
-opens_only feed a b (building x short reads run takes) (too_long {f = f} long) = absurd (unbroken (sized feed) short (refusal_number f) long.0)
-opens_only feed a b (building x short reads run takes) (no_building {f = f} short' reads') = absurd (building_once feed (Ok x) (Err f) reads reads')
-opens_only feed a b (building {notes = ns} {left = l} x short reads run takes) (building {notes = ns'} {left = l'} y short' reads' run' takes') =
-    let numbers = building_once feed (Ok x) (Ok y) reads reads' in
-    let same = rows_only (after_first feed) ns ns' l l' run run' in
-    takes_only (with_left (numbers_of x) [] l) ns a b takes (rw (numbers, same.0, same.1) takes')
+opens_only feed a b (no_building {f = f} short reads) (row_refused {b = x} short' opens takes) = absurd (building_once feed (Err f) (Ok x) reads opens.building)
+opens_only feed a b (no_building {f = f} short reads) (project {b = x} short' opens takes) = absurd (building_once feed (Err f) (Ok x) reads opens.building)
+opens_only feed a b (row_refused short opens takes) (too_long {f = f} long) = absurd (unbroken (sized feed) short (refusal_number f) long.0)
+opens_only feed a b (row_refused {b = x} short opens takes) (no_building {f = f} short' reads) = absurd (building_once feed (Ok x) (Err f) opens.building reads)
+opens_only feed a b (row_refused {notes = ns} {f = f} short opens takes) (row_refused {f = g} short' opens' takes') =
+    let same = opens_with_only opens opens' in
+    takes_only [] ns (Err f) (Err g) takes (subst (λ n. TakesRows [] n (Err g)) (sym same.1) takes')
+opens_only feed a b (row_refused {notes = ns} {f = f} short opens takes) (project {rows = rs} short' opens' takes') =
+    let same = opens_with_only opens opens' in
+    absurd (takes_only [] ns (Err f) (Ok rs) takes (subst (λ n. TakesRows [] n (Ok rs)) (sym same.1) takes'))
+opens_only feed a b (project short opens takes) (too_long {f = f} long) = absurd (unbroken (sized feed) short (refusal_number f) long.0)
+opens_only feed a b (project {b = x} short opens takes) (no_building {f = f} short' reads) = absurd (building_once feed (Ok x) (Err f) opens.building reads)
+opens_only feed a b (project {notes = ns} {rows = rs} short opens takes) (row_refused {f = f} short' opens' takes') =
+    let same = opens_with_only opens opens' in
+    absurd (takes_only [] ns (Ok rs) (Err f) takes (subst (λ n. TakesRows [] n (Err f)) (sym same.1) takes'))
+opens_only feed a b (project {notes = ns} {rows = rs} short opens takes) (project {rows = rs'} short' opens' takes') =
+    let same = opens_with_only opens opens' in
+    let rows = takes_only [] ns (Ok rs) (Ok rs') takes (subst (λ n. TakesRows [] n (Ok rs')) (sym same.1) takes') in
+    (λ i. parts (same.0 i) (rows i) (same.2 i))
 
 -- the line for a refusal depends on its number alone
 denied_same : (k : ℕ) (f g : Refusal) → refusal_number f ≡ refusal_number g → denied_line k f ≡ denied_line k g
 denied_same k f g number i = codes "denied " ++ (decimal k ++ (codes " " ++ (decimal (number i) ++ codes "\n")))
 
 -- one send of a sheet has one outcome, and one line
-same_sends : (s t t' : State) (bs : List ℕ) (r r' : Result (Unit {0}) Refusal) (k : ℕ) → Sends s bs r t → Sends s bs r' t' → Same (λ u v. t ≡ t') r r' → (t ≡ t') × (send_said k r ≡ send_said k r')
-same_sends s t t' bs (Ok u) (Ok v) k a b same = (same, refl)
-same_sends s t t' bs (Ok u) (Err g) k a b same = absurd same
-same_sends s t t' bs (Err f) (Ok v) k a b same = absurd same
-same_sends s t t' bs (Err f) (Err g) k a b same = (a.refused ∙ sym b.refused, denied_same k f g same)
+same_sends : {s t t' : State} {bs : List ℕ} (r r' : Result (Unit {0}) Refusal) (k : ℕ) → Sends s bs r t → Sends s bs r' t' → (t ≡ t') × (send_said k r ≡ send_said k r')
+same_sends (Ok u) (Ok v) k a b = (a.let_in ∙ sym b.let_in, refl)
+same_sends {s} {bs = bs} (Ok u) (Err g) k a b = let e = told_only (send_asked s bs) a.number b.number in absurd (omega (arith, above_zero g))
+same_sends {s} {bs = bs} (Err f) (Ok v) k a b = let e = told_only (send_asked s bs) a.number b.number in absurd (omega (arith, above_zero f))
+same_sends {s} {bs = bs} (Err f) (Err g) k a b = (a.refused ∙ sym b.refused, denied_same k f g (told_only (send_asked s bs) a.number b.number))
 
 module _ (b : BuildingNumbers) (known : Map) where
   -- the same bytes, sent in the same order, lead to one sheet and to the same lines
@@ -100,8 +119,7 @@ module _ (b : BuildingNumbers) (known : Map) where
       let tail : map (λ z. z.0) a ≡ map (λ z. z.0) a' = ap (drop 1) same in
       let before = sent_once a a' t t' tail run run' in
       let step'' : Sends t x.0 y.1 s' = subst (λ q. Sends q x.0 y.1 s') (sym before.0) (subst (λ bs. Sends t' bs y.1 s') (sym bytes) step') in
-      let same = decided_only (asked t.building.life t.known x.0 ++ placing t.held (line_sent t x.0)) (λ u. s ≡ with_line t (line_sent t x.0)) (λ u. s' ≡ with_line t (line_sent t x.0)) (λ u v. s ≡ s') (λ u v is is'. is ∙ sym is') x.1 y.1 step.answer step''.answer in
-      let once = same_sends t s s' x.0 x.1 y.1 (length (sends (sendings a)) + 1) step step'' same in
+      let once = same_sends x.1 y.1 (length (sends (sendings a)) + 1) step step'' in
       let place : length (sends (sendings a)) + 1 ≡ length (sends (sendings a')) + 1 = ap (λ l. length l + 1) (bytes_are a (map (λ z. z.0) a') tail ∙ sym (bytes_are a' (map (λ z. z.0) a') refl)) in
       (once.0, λ i. before.1 i ++ (once.1 ∙ ap (λ k. send_said k y.1) place) i)
 

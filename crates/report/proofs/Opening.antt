@@ -1,37 +1,33 @@
 -- How reading a project ends. Assumes nothing.
-use Rattle.std.proofs.Common.{◌≡◌, ℕ, ◌<◌, List, [], length, Ok, Err, Result, subst, arith}
-use Rattle.std.specs.Result.{IsErrAnd}
-use Rattle.std.proofs.lemmas.Result.{err_from_is_err_and}
+use Rattle.std.proofs.Common.{ℕ, ◌≤◌, List, [], length, Ok, Err, Result, refl}
 use Rattle.refusals.specs.declared.refusal.Refusal.{Refusal}
 use Rattle.refusals.specs.declared.refusal.Refusal.TheVariants.{FeedTooLong}
-use Rattle.refusals.specs.Refusals.{Kept}
-use Rattle.refusals.proofs.Deciding.{least_here}
-use Rattle.feed.specs.declared.building.Building.{Building}
-use Rattle.feed.specs.declared.reader.Reader.{Reader}
-use Rattle.feed.specs.Buildings.{numbers_of}
-use Rattle.feed.specs.Feeds.{Answer, left_of, Opened, Answered}
-use Rattle.feed.specs.Frames.{RowNotes}
-use Rattle.feed.specs.Readings.{ReadsBuilding}
-use Rattle.feed.proofs.Beginning.{first_passed}
-use Rattle.report.specs.declared.project.Project.{Project}
-use Rattle.report.specs.declared.project.ProjectError.{ProjectError}
-use Rattle.report.specs.declared.project.ProjectError.TheVariants.{Refused, OutOfMemory}
-use Rattle.report.specs.Projects.{ForMemory, sized, ProjectParts, Opens, too_long, building, ReadsProject}
-use Rattle.report.proofs.Listed.{Ends}
+use Rattle.refusals.specs.Refusals.{refusal_number}
+use Rattle.refusals.proofs.Deciding.{told}
+use Rattle.domain.specs.declared.building.Building.{Building}
+use Rattle.domain.specs.declared.factor.FactorRow.{FactorRow}
+use Rattle.domain.specs.Buildings.{numbers_of}
+use Rattle.feed.specs.declared.opening.OpeningError.{OpeningError}
+use Rattle.feed.specs.declared.opening.OpeningError.TheVariants.{Refused, OutOfMemory}
+use Rattle.feed.specs.Openings.{OpenedAs, ReadsOpening}
+use Rattle.feed.specs.Rows.{RowsRead}
+use Rattle.report.specs.Projects.{parts, TakesRows, Opens, too_long, no_building, row_refused, project, ReadsRows, ReadsProject}
 
 module _ (feed : List ℕ) where
-  pub refused_with : (r : Result Project ProjectError) (f : Refusal) → IsErrAnd r (λ e. e ≡ Refused f) → Opens feed (Err f) → ReadsProject feed r
-  refused_with r f exit opens = let x = err_from_is_err_and r exit in rw (x.1, x.2) opens
+  pub refused_long : (length feed ≤ 65536 → ⊥) → Opens feed (Err FeedTooLong)
+  refused_long long = too_long (told [] [] (refusal_number FeedTooLong) refl tt long)
 
-  pub for_memory : (r : Result Project ProjectError) → IsErrAnd r ForMemory → ReadsProject feed r
-  for_memory (Ok p) exit = elim exit [ ]
-  for_memory (Err (Refused f)) exit = elim exit [ ]
-  for_memory (Err (OutOfMemory e)) exit = tt
+  module _ (short : length feed ≤ 65536) where
+    -- without an opening there is no project
+    pub not_opened : (e : OpeningError) → ReadsOpening feed (Err e) → ReadsProject feed (Err e)
+    not_opened (Refused f) reads = no_building (short, tt) reads
+    not_opened (OutOfMemory e) reads = tt
 
-  pub too_many_bytes : 65536 < length feed → Opens feed (Err FeedTooLong)
-  too_many_bytes more = too_long (least_here 25 [] (λ few. omega arith) tt)
+    module _ {b : Building} {answers : List (Result FactorRow Refusal)} {left : List ℕ} (opened : OpenedAs feed b answers left) where
+      -- nor is there one where a row is refused
+      pub row_not_taken : (e : OpeningError) → ((notes : List (List ℕ)) → RowsRead notes answers → ReadsRows notes (Err e)) → ReadsProject feed (Err e)
+      row_not_taken (Refused f) own = row_refused (short, tt) opened.opens (own opened.notes opened.read)
+      row_not_taken (OutOfMemory e) own = tt
 
-  -- a feed that begins with a building opens with it and the rows after it
-  pub opens_with : (b : Building) (r : Reader) (a : Answer) (t : Reader) (end : Result ProjectParts Refusal) → Kept (sized feed) → ReadsBuilding feed (Ok b) → Opened feed r → Answered r a t → Ends (left_of t) (numbers_of b) end → Opens feed end
-  opens_with b r a t end short reads start step ends =
-      building b short reads (subst (λ bs. RowNotes bs ends.notes ends.left) (first_passed feed r a t start step reads.0.0) ends.run) ends.takes
+      pub taken : (rows : List FactorRow) → ((notes : List (List ℕ)) → RowsRead notes answers → TakesRows [] notes (Ok rows)) → Opens feed (Ok (parts (numbers_of b) rows left))
+      taken rows own = project (short, tt) opened.opens (own opened.notes opened.read)

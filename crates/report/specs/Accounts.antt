@@ -3,7 +3,7 @@ use Rattle.std.specs.Prelude.{◌≡◌, ℕ, ◌<◌, List, [], ◌∷◌, ◌+
 use Rattle.refusals.specs.declared.refusal.Refusal.{Refusal}
 use Rattle.factors.specs.Layers.{project_map}
 use Rattle.factors.specs.Maps.{Map}
-use Rattle.feed.specs.declared.building.BuildingNumbers.{BuildingNumbers}
+use Rattle.domain.specs.declared.building.BuildingNumbers.{BuildingNumbers}
 use Rattle.feed.specs.Frames.{Framed, OneNote}
 use Rattle.pages.specs.declared.figure.Figure.{Figure}
 use Rattle.pages.specs.Cuts.{by_stage}

@@ -1,13 +1,15 @@
-// What a feed opens with: a building, and the project's own factors.
-ghost use Rattle.std.specs.Prelude.{◌≡◌};
-ghost use Rattle.report.specs.declared.project.ProjectError.TheVariants.{Refused};
-ghost use Rattle.report.specs.Projects.{ReadsProject, ReadsRow, ForMemory};
+// A project: the building that a feed opens with, and its own factors.
+ghost use Rattle.std.specs.Prelude.{List, ℕ, ◌≤◌, length};
+ghost use Rattle.feed.specs.Readings.{ReadsFactorRow};
+ghost use Rattle.feed.specs.Rows.{RowsRead};
+ghost use Rattle.refusals.specs.declared.refusal.Refusal.TheVariants.{FeedTooLong};
+ghost use Rattle.refusals.specs.Refusals.{Judged};
+ghost use Rattle.report.specs.Projects.{ReadsProject, ReadsRow, ReadsRows};
 
-use feed::building::Building;
-use feed::factor::FactorRow;
-use feed::reader::Reader;
+use domain::{Building, FactorRow};
+use feed::opening::{Opening, OpeningError};
 use refusals::Refusal;
-use std::alloc::{AllocError, AllocFailed, Global};
+use std::alloc::Global;
 
 // The most bytes that a feed has.
 pub(crate) const MOST_BYTES: usize = 65_536;
@@ -23,60 +25,51 @@ pub(crate) struct Project<'a> {
     pub notes: &'a [u8],
 }
 
-// Why there is no project: the feed is refused before anything is sent, or there is no room for the list.
-#[derive(Debug, Drop)]
-pub(crate) enum ProjectError {
-    Refused(Refusal),
-    OutOfMemory(AllocError),
-}
-
-impl From<Refusal> for ProjectError {
-    ghost from_gives = { λ refusal e. e ≡ Refused refusal };
-
-    fn from(refusal: Refusal) -> ProjectError {
-        ProjectError::Refused(refusal)
-    }
-}
-
-impl<T: Drop> From<AllocFailed<T>> for ProjectError {
-    ghost from_gives = { λ _ e. ForMemory e };
-
-    fn from(failed: AllocFailed<T>) -> ProjectError {
-        ProjectError::OutOfMemory(failed.into())
-    }
-}
-
 impl<'a> Project<'a> {
-    // The first note is the building, and the factor rows after it are the list.
-    #[tactic(auto, using(feed::proofs::Ending::fewer_left))]
-    pub(crate) fn read(heap: Global, feed: &'a [u8]) -> Result<Project<'a>, ProjectError>
+    // What the feed opens with, unless a factor row is refused.
+    pub(crate) fn read(heap: Global, feed: &'a [u8]) -> Result<Project<'a>, OpeningError>
         ensures { ReadsProject feed.now result }
     {
-        if feed.len() > MOST_BYTES {
-            return Err(Refusal::FeedTooLong.into());
-        }
-        let building = Building::read(feed)?;
-        // Past the first note, which is the building.
-        let mut reader = Reader::new(feed);
-        reader.next()?;
-        let mut rows = Vec::new(heap);
-        while let Some(note) = reader.next_row() {
-            let row = read_row(note.bytes, rows.len())?;
-            rows.push(row)?;
-        }
+        short(feed)?;
+        let opening = Opening::read(heap, feed)?;
+        let rows = own_rows(heap, opening.rows.as_slice())?;
         Ok(Project {
-            building,
+            building: opening.building,
             rows,
-            notes: reader.left().bytes,
+            notes: opening.rest.left().bytes,
         })
     }
 }
 
-// The factor row of a note, after so many others.
-fn read_row(note: &[u8], before: usize) -> Result<FactorRow, Refusal>
-    ensures { ReadsRow before note.now result }
+fn short(feed: &[u8]) -> Result<(), Refusal>
+    ensures { Judged (length feed.now ≤ 65536) FeedTooLong (λ _. Unit {0}) result }
 {
-    let row = FactorRow::read(note)?;
+    if feed.len() > MOST_BYTES {
+        return Err(Refusal::FeedTooLong);
+    }
+    Ok(())
+}
+
+// The project's own factors, from what reading each row answered: all rows, or the refusal of the first that is refused.
+fn own_rows(
+    heap: Global,
+    answers: &[Result<FactorRow, Refusal>],
+) -> Result<Vec<FactorRow>, OpeningError>
+    ensures { (notes : List (List ℕ)) → RowsRead notes answers.now → ReadsRows notes result }
+{
+    let mut rows = Vec::new(heap);
+    for answer in answers {
+        let row = own_row(*answer, rows.len())?;
+        rows.push(row)?;
+    }
+    Ok(rows)
+}
+
+// The row after so many others.
+fn own_row(answer: Result<FactorRow, Refusal>, before: usize) -> Result<FactorRow, Refusal>
+    ensures { (note : List ℕ) → ReadsFactorRow note answer → ReadsRow before note result }
+{
+    let row = answer?;
     if before >= MOST_ROWS {
         return Err(Refusal::TooManyRows);
     }

@@ -1,7 +1,7 @@
 // Sending notes into a sheet.
 ghost use Rattle.std.specs.Prelude.{◌≡◌, IfOk, string_bytes};
 ghost use Rattle.factors.specs.Maps.{Map};
-ghost use Rattle.feed.specs.declared.building.BuildingNumbers.{BuildingNumbers};
+ghost use Rattle.domain.specs.declared.building.BuildingNumbers.{BuildingNumbers};
 ghost use Rattle.report.specs.Accounts.{AllSent};
 ghost use Rattle.report.specs.Calls.{SendWritten};
 ghost use Rattle.sheet.specs.States.{state_of, opened};
@@ -23,7 +23,7 @@ pub(crate) fn send_all<S: FactorSource>(
 {
     let mut text = String::new(heap);
     let mut reader = Reader::new(notes);
-    while let Ok(Some(part)) = reader.next() {
+    while let Some(part) = reader.next_note() {
         let line = send(heap, sheet, &part)?;
         text.push_str(line.as_str())?;
     }
@@ -31,8 +31,8 @@ pub(crate) fn send_all<S: FactorSource>(
     if left.bytes.is_empty() {
         return Ok(text);
     }
-    let line = send(heap, sheet, &left)?;
-    text.push_str(line.as_str())?;
+    let last = send(heap, sheet, &left)?;
+    text.push_str(last.as_str())?;
     Ok(text)
 }
 

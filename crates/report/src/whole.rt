@@ -4,7 +4,8 @@ ghost use Rattle.report.specs.Reports.{Reports, LawfulReport};
 
 use crate::account::account;
 use crate::lines::denied_line;
-use crate::project::{Project, ProjectError};
+use crate::project::Project;
+use feed::opening::OpeningError;
 use std::alloc::{AllocError, Global};
 
 // What is written for a feed. One whose beginning is refused has a line for that. Any other has a line for each send that is refused, then the page by stage and the grade.
@@ -15,7 +16,7 @@ pub fn report(heap: Global, feed: &[u8]) -> Result<String, AllocError>
 {
     match Project::read(heap, feed) {
         Ok(project) => account(heap, &project),
-        Err(ProjectError::Refused(refusal)) => denied_line(heap, 0, refusal),
-        Err(ProjectError::OutOfMemory(error)) => Err(error),
+        Err(OpeningError::Refused(refusal)) => denied_line(heap, 0, refusal),
+        Err(OpeningError::OutOfMemory(error)) => Err(error),
     }
 }

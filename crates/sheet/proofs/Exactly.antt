@@ -8,7 +8,7 @@ use Rattle.exact.specs.Rounding.{Fraction}
 use Rattle.exact.proofs.Halves.{WithinHalves, none_away, one_away, away_negated, away_plus}
 use Rattle.refusals.specs.Refusals.{Kept}
 use Rattle.factors.specs.Maps.{Map}
-use Rattle.booking.specs.declared.entry.Entry.{Entry}
+use Rattle.domain.specs.declared.entry.Entry.{Entry}
 use Rattle.booking.specs.Booked.{booked, content, exact_grams}
 use Rattle.booking.specs.Rows.{subtracted}
 use Rattle.booking.specs.Weights.{signed_grams}

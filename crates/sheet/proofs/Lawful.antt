@@ -12,8 +12,8 @@ use Rattle.exact.proofs.Products.{scale_le, apart, doubled}
 use Rattle.refusals.specs.declared.refusal.Refusal.{Refusal}
 use Rattle.refusals.specs.Refusals.{Kept}
 use Rattle.factors.specs.Maps.{Map}
-use Rattle.feed.specs.declared.building.BuildingNumbers.{BuildingNumbers}
-use Rattle.booking.specs.declared.entry.Entry.{Entry}
+use Rattle.domain.specs.declared.building.BuildingNumbers.{BuildingNumbers}
+use Rattle.domain.specs.declared.entry.Entry.{Entry}
 use Rattle.booking.specs.Booked.{booked, exact_grams}
 use Rattle.booking.specs.Rows.{RowRange, subtracted}
 use Rattle.booking.proofs.Kept.{row_kept, exact_divides}
@@ -155,8 +155,8 @@ module _ (b : BuildingNumbers) (known : Map) where
 
   -- ---- all pages
 
-  pub lawful : (h : List Event) (s : State) → Run b known h s → Lawful b known h
-  lawful h s r =
+  pub lawful : {h : List Event} {s : State} → Run b known h s → Lawful b known h
+  lawful {h} {s} r =
       record {
         pages = λ later before cut total places after is.
             let u = up_to later (paged cut places (Ok total) after ∷ before) s (subst (λ x. Run b known x s) is r) in

@@ -1,15 +1,17 @@
--- A number's place: the first that has it, or none. Assumes nothing.
-use Rattle.std.proofs.Common.{◌≡◌, ℕ, ◌+◌, ◌<◌, ◌≤◌, List, [], ◌∷◌, ◌++◌, length, get_or, set, map, Some, None, Option, ◌==◌, Bool, inl, inr, ⊎_elim, ap, ◌∙◌, sym, refl, subst, arith, length-take}
+-- A number's place: the first that has it, or none; and what is put there. Assumes nothing.
+use Rattle.std.proofs.Common.{◌≡◌, ℕ, ◌+◌, ◌<◌, ◌≤◌, List, [], ◌∷◌, ◌++◌, length, get_or, set, map, Some, None, Ok, Err, ◌==◌, Bool, inl, inr, ⊎_elim, ap, ◌∙◌, sym, refl, subst, arith, length-take}
 use Rattle.std.specs.List.{position, position_or_len}
 use Rattle.std.proofs.lemmas.List.{length-map, get_or-take, take_more_set}
 use Rattle.std.proofs.Math.Seq.{take-set-lt}
-use Rattle.refusals.specs.Refusals.{Conditions, Kept, Least}
-use Rattle.refusals.proofs.Deciding.{least_on, least_here, least_stop}
+use Rattle.refusals.specs.declared.refusal.Refusal.{Refusal}
+use Rattle.refusals.specs.declared.refusal.Refusal.TheVariants.{BookFull}
+use Rattle.refusals.specs.Refusals.{refusal_number, Conditions, Kept, Least}
+use Rattle.refusals.proofs.Deciding.{least_stop, told, kept_both}
 use Rattle.sheet.specs.declared.book.Book.{Book}
 use Rattle.sheet.specs.declared.place.Held.TheVariants.{Withdrawn}
 use Rattle.sheet.specs.declared.place.Place.{Place}
 use Rattle.sheet.specs.Places.{Taken, taken_by, in_use, taken}
-use Rattle.sheet.specs.Placing.{under, Ahead, Agrees, Among, Room, replacing, placing, placed}
+use Rattle.sheet.specs.Placing.{under, Among, Room, replacing, placed, Puts}
 
 -- what stands in a place that is not in use
 abbrev pub empty : Place
@@ -54,67 +56,92 @@ located p xs at e = grind arith
 nowhere : {X : Type 0} (p : X → Bool) (xs : List X) → position p xs ≡ None → length xs ≤ position_or_len p xs
 nowhere p xs e = grind arith
 
--- what is asked of a line in view of the places that are taken
+-- a book as the code makes it
+abbrev pub book_of : List Place → ℕ → Book
+book_of places used = record { places = places; used = used }
+
+-- what is asked of a line in view of the numbers that have places
 abbrev room_asked : Book → Place → Conditions
-room_asked book new = (23, Room (numbers_of (taken book)) new.number) ∷ []
+room_asked book new = (refusal_number BookFull, Room (numbers_of (taken book)) new.number) ∷ []
 
--- a number that is found in the book, at a place
-pub record Stands (book : Book) (new : Place) (at : ℕ) (d : Place) : Type 0 where
-  pub here : under new.number (taken book) ≡ Some (taken_by (get_or book.places at d))
-  pub room : Room (numbers_of (taken book)) new.number
-  pub replaced : taken (record { places = set book.places at new; used = book.used }) ≡ placed (taken_by new) (taken book)
+module _ (book : Book) (new : Place) (whole : length book.places ≡ 512) where
+  abbrev k : ℕ
+  k = new.number
 
-pub stands : (book : Book) (new : Place) (at : ℕ) (d : Place) → position (λ p. p.number == new.number) (in_use book) ≡ Some at → Stands book new at d
-stands book new at d e =
-    let k = new.number in
-    let ps = in_use book in
-    let l = located (λ p. p.number == k) ps at e in
-    let within : first k ps < length ps = omega (arith, l.0, l.1) in
-    let used : at < book.used = omega (arith, l.1, length-take book.used book.places) in
-    record {
-      here = subst (λ i. under k (map taken_by ps) ≡ Some (taken_by (get_or ps i d))) l.0 (found k ps d within) ∙ ap (λ p. Some (taken_by p)) (get_or-take book.used book.places at d used);
-      room = inl (among k ps within);
-      replaced = ap (map taken_by) (take-set-lt book.used book.places at new used) ∙ subst (λ i. map taken_by (set ps i new) ≡ placed (taken_by new) (map taken_by ps)) l.0 (replaced k ps new within refl);
-    }
+  abbrev ps : List Place
+  ps = in_use book
 
-module _ (book : Book) (new : Place) (at : ℕ) (d : Place) (s : Stands book new at d) where
-  abbrev old : Option Taken
-  old = Some (taken_by (get_or book.places at d))
+  used_least : length ps ≤ 512
+  used_least = omega (arith, length-take book.used book.places)
 
-  -- a line that is refused in view of the one that it would replace is refused by the book
-  pub refused : (n : ℕ) → Least (replacing (taken_by new) old) n → Least (placing (taken book) (taken_by new)) n
-  refused n least =
-      subst (λ o. Least (replacing (taken_by new) o ++ room_asked book new) n) (sym s.here)
-      (least_stop (replacing (taken_by new) old) (room_asked book new) 22 n (omega arith, (omega arith, tt)) (omega arith, tt) least)
+  -- ---- A number that is found, at a place
 
-  pub let_in : Kept (replacing (taken_by new) old) → Kept (placing (taken book) (taken_by new))
-  let_in kept = (subst (Ahead (taken_by new)) (sym s.here) kept.0, (subst (Agrees (taken_by new)) (sym s.here) kept.1.0, (s.room, tt)))
+  module _ (at : ℕ) (d : Place) (e : position (λ p. p.number == new.number) (in_use book) ≡ Some at) where
+    abbrev old : Taken
+    old = taken_by (get_or book.places at d)
 
--- a number that is not found
-pub record Missing (book : Book) (new : Place) : Type 0 where
-  pub here : under new.number (taken book) ≡ None
-  pub full : 512 ≤ length (in_use book) → Room (numbers_of (taken book)) new.number → ⊥
-  pub room : length (in_use book) < 512 → Room (numbers_of (taken book)) new.number
-  pub added : book.used < length book.places → taken (record { places = set book.places book.used new; used = book.used + 1 }) ≡ placed (taken_by new) (taken book)
+    at_is : first k ps ≡ at
+    at_is = (located (λ p. p.number == k) ps at e).0
 
-pub missing : (book : Book) (new : Place) → position (λ p. p.number == new.number) (in_use book) ≡ None → Missing book new
-missing book new e =
-    let k = new.number in
-    let ps = in_use book in
-    let l = nowhere (λ p. p.number == k) ps e in
-    let same = length-map (map taken_by ps) (λ t. t.number) ∙ length-map ps taken_by in
-    record {
-      here = missed k ps l;
-      full = λ full r. ⊎_elim (not_among k ps l) (λ less. omega (arith, same)) r;
-      room = λ less. inr (omega (arith, same));
-      added = λ less. ap (map taken_by) (take_more_set book.places book.used new less) ∙ added k ps new l refl;
-    }
+    within : first k ps < length ps
+    within = let l = located (λ p. p.number == k) ps at e in omega (arith, l.0, l.1)
 
-module _ (book : Book) (new : Place) (m : Missing book new) where
-  pub refused_full : 512 ≤ length (in_use book) → Least (placing (taken book) (taken_by new)) 23
-  refused_full full =
-      subst (λ o. Least (replacing (taken_by new) o ++ room_asked book new) 23) (sym m.here)
-      (least_on (replacing (taken_by new) None) (room_asked book new) 23 (tt, (tt, tt)) (least_here 23 [] (m.full full) tt))
+    used : at < book.used
+    used = omega (arith, within, at_is, length-take book.used book.places)
 
-  pub let_in_new : length (in_use book) < 512 → Kept (placing (taken book) (taken_by new))
-  let_in_new less = (subst (Ahead (taken_by new)) (sym m.here) tt, (subst (Agrees (taken_by new)) (sym m.here) tt, (m.room less, tt)))
+    pub at_least : at < 512
+    at_least = omega (arith, within, at_is, used_least)
+
+    here : under k (taken book) ≡ Some old
+    here = subst (λ i. under k (map taken_by ps) ≡ Some (taken_by (get_or ps i d))) at_is (found k ps d within) ∙ ap (λ p. Some (taken_by p)) (get_or-take book.used book.places at d used)
+
+    replaced_there : taken (book_of (set book.places at new) book.used) ≡ placed (taken_by new) (taken book)
+    replaced_there = ap (map taken_by) (take-set-lt book.used book.places at new used) ∙ subst (λ i. map taken_by (set ps i new) ≡ placed (taken_by new) (map taken_by ps)) at_is (replaced k ps new within refl)
+
+    -- a line is refused by the book for what the one that it would replace refuses it for
+    pub puts_nothing : (f : Refusal) → Least (replacing (taken_by new) (Some old)) (refusal_number f) → Puts new book (Err f) book
+    puts_nothing f least =
+        record {
+          answer = subst (λ o. Least (replacing (taken_by new) o ++ room_asked book new) (refusal_number f)) (sym here) (least_stop (replacing (taken_by new) (Some old)) (room_asked book new) (refusal_number f) refl least);
+          one = tt;
+          refused = refl;
+        }
+
+    pub puts_there : Kept (replacing (taken_by new) (Some old)) → Puts new book (Ok tt) (book_of (set book.places at new) book.used)
+    puts_there kept =
+        record {
+          answer = (kept_both (replacing (taken_by new) (under k (taken book))) (room_asked book new) (subst (λ o. Kept (replacing (taken_by new) o)) (sym here) kept) (inl (among k ps within), tt), replaced_there);
+          one = record { at = at; within = omega (arith, at_least, whole); places = refl; used = inl refl };
+          refused = tt;
+        }
+
+  -- ---- A number that is not found
+
+  module _ (e : position (λ p. p.number == new.number) (in_use book) ≡ None) where
+    none : length ps ≤ first k ps
+    none = nowhere (λ p. p.number == k) ps e
+
+    as_many : length (numbers_of (taken book)) ≡ length ps
+    as_many = length-map (map taken_by ps) (λ t. t.number) ∙ length-map ps taken_by
+
+    free : Kept (replacing (taken_by new) (under k (taken book)))
+    free = subst (λ o. Kept (replacing (taken_by new) o)) (sym (missed k ps none)) (tt, (tt, tt))
+
+    pub puts_none : 512 ≤ book.used → Puts new book (Err BookFull) book
+    puts_none full =
+        record {
+          answer = told (replacing (taken_by new) (under k (taken book))) [] (refusal_number BookFull) refl free (λ room. ⊎_elim (not_among k ps none) (λ less. omega (arith, as_many, length-take book.used book.places)) room);
+          one = tt;
+          refused = refl;
+        }
+
+    pub puts_next : book.used < 512 → Puts new book (Ok tt) (book_of (set book.places book.used new) (book.used + 1))
+    puts_next less =
+        record {
+          answer = (
+            kept_both (replacing (taken_by new) (under k (taken book))) (room_asked book new) free (inr (omega (arith, as_many, length-take book.used book.places)), tt),
+            ap (map taken_by) (take_more_set book.places book.used new (omega arith)) ∙ added k ps new none refl,
+          );
+          one = record { at = book.used; within = omega (arith, less, whole); places = refl; used = inr (refl, refl) };
+          refused = tt;
+        }

@@ -1,50 +1,34 @@
--- Which refusal a send tells. Assumes nothing.
-use Rattle.std.proofs.Common.{◌≡◌, ℕ, List, ◌++◌, Some, None, IfErr, Option, Ok, Err, Result, inl, inr, sym, refl, ap, ◌∙◌, subst, arith}
-use Rattle.std.specs.Result.{IsErrAnd}
-use Rattle.std.proofs.lemmas.Result.{err_from_is_err_and}
+-- What a send answers, step by step. Assumes nothing.
+use Rattle.std.proofs.Common.{◌≡◌, ℕ, List, ◌++◌, Some, None, IfOk, IfErr, Option, Ok, Err, Result, sym, refl, ap, ◌∙◌, subst}
+use Rattle.std.proofs.lemmas.Result.{IfOk-weaker, IfErr-weaker}
 use Rattle.refusals.specs.declared.refusal.Refusal.{Refusal}
-use Rattle.refusals.specs.Refusals.{refusal_number, Conditions, Kept, Least, Decided}
-use Rattle.refusals.proofs.Deciding.{BelowAll, UpTo, broken_up_to, unbroken_below, least_on, least_stop, kept_both}
+use Rattle.refusals.specs.Refusals.{refusal_number, lack_number, Conditions, Kept, Least, Decided}
+use Rattle.refusals.proofs.Deciding.{InOrder, least_on, least_stop, kept_both, untold, told_kept, told_least}
 use Rattle.factors.specs.Maps.{Map}
-use Rattle.feed.specs.declared.sent.Sent.{Sent}
-use Rattle.feed.specs.declared.sent.Sent.TheVariants.{Entry as SentAsEntry, Withdrawal as SentAsWithdrawal}
 use Rattle.feed.specs.Frames.{first_note}
 use Rattle.feed.specs.Readings.{readable}
-use Rattle.feed.specs.Sendings.{SentKind, SaysSent}
-use Rattle.booking.specs.declared.entry.Entry.{Entry}
+use Rattle.feed.specs.declared.sent.Sent.{Sent}
+use Rattle.feed.specs.Sendings.{IsSent, SaysSent}
 use Rattle.booking.specs.Booked.{content}
-use Rattle.booking.specs.Entries.{booked_entry, kind_entry}
+use Rattle.domain.specs.declared.entry.Entry.{Entry}
 use Rattle.sheet.specs.Notes.{Note, note_of, sent_note, entry_asked, Named, taken_of}
 use Rattle.sheet.specs.declared.book.Book.{Book}
-use Rattle.sheet.specs.Places.{Taken, taken}
-use Rattle.sheet.specs.Placing.{placing, placed}
-use Rattle.sheet.specs.States.{State, asked, Sends}
+use Rattle.sheet.specs.declared.place.Place.{Place}
+use Rattle.sheet.specs.Places.{Taken, taken_by, taken}
+use Rattle.sheet.specs.Placing.{placing, placed, Puts}
+use Rattle.sheet.specs.declared.sheet.Sheet.{Sheet}
+use Rattle.sheet.specs.States.{State, asked, send_asked, line_sent, OneChanged, Sends}
 
--- what was read of a note is what its bytes say
-pub note_is : (note : List ℕ) (s : Sent) → SaysSent note s → sent_note s ≡ note_of note
-note_is note (SentAsEntry e) (inl h) = λ i. record { number = (h.1 i).head.number; revision = (h.1 i).head.revision; entry = (ap (λ x. Some (booked_entry x)) h.1 ∙ ap (λ k. kind_entry k note) (sym h.0)) i }
-note_is note (SentAsEntry e) (inr h) = λ i. record { number = (h.1 i).head.number; revision = (h.1 i).head.revision; entry = (ap (λ x. Some (booked_entry x)) h.1 ∙ ap (λ k. kind_entry k note) (sym h.0)) i }
-note_is note (SentAsWithdrawal w) h = λ i. record { number = (h.1 i).number; revision = (h.1 i).revision; entry = (ap (λ k. kind_entry k note) (sym h.0)) i }
+-- what is asked of a send stands in the order in which it is told
+in_order_of : (y : ℕ) (known : Map) (bs : List ℕ) (e : Option Entry) (held : List Taken) (new : Taken) → InOrder ((readable IsSent bs ++ entry_asked y known e) ++ placing held new)
+unfolding content
+in_order_of y known bs None held new = refl
+in_order_of y known bs (Some e) held new = refl
 
-readable_numbers : (bs : List ℕ) → UpTo 4 (readable SentKind bs)
-readable_numbers bs = (omega arith, (omega arith, (omega arith, (omega arith, tt))))
-
-pub placing_numbers : (held : List Taken) (new : Taken) → BelowAll 10 (placing held new)
-placing_numbers held new = (omega arith, (omega arith, (omega arith, tt)))
-
-module _ (y : ℕ) (known : Map) where
-  entry_asked_numbers : (e : Option Entry) → UpTo 10 (entry_asked y known e) × BelowAll 4 (entry_asked y known e)
-  unfolding content
-  entry_asked_numbers None = (tt, tt)
-  entry_asked_numbers (Some e) = (
-    (omega arith, (omega arith, (omega arith, (omega arith, (omega arith, (omega arith, tt)))))),
-    (omega arith, (omega arith, (omega arith, (omega arith, (omega arith, (omega arith, tt)))))),
-  )
-
-  -- a refusal that is none for want of a factor has no codes to name
-  pub unnamed : (e : Option Entry) (f : Refusal) → (refusal_number f ≡ 8 → ⊥) → Named y known e f
-  unnamed None f other = tt
-  unnamed (Some e) f other = λ n. absurd (other n)
+-- a refusal that is none for want of a factor has no codes to name
+unnamed : (y : ℕ) (known : Map) (e : Option Entry) (f : Refusal) → (refusal_number f ≡ lack_number → ⊥) → Named y known e f
+unnamed y known None f other = tt
+unnamed y known (Some e) f other = λ is. absurd (other is)
 
 module _ (s : State) (bs : List ℕ) where
   abbrev y : ℕ
@@ -53,64 +37,68 @@ module _ (s : State) (bs : List ℕ) where
   abbrev note : Note
   note = note_of (first_note bs)
 
-  abbrev weighed : Conditions
-  weighed = entry_asked y s.known note.entry
+  abbrev read_asked : Conditions
+  read_asked = readable IsSent bs
 
-  -- the line that the note would put into its place
-  abbrev line : Taken
-  line = taken_of y s.known note
+  abbrev book_asked : Conditions
+  book_asked = placing s.held (line_sent s bs)
 
-  abbrev let_in : Conditions
-  let_in = placing s.held line
+  pub in_order : InOrder (send_asked s bs)
+  in_order = in_order_of y s.known bs note.entry s.held (line_sent s bs)
 
-  pub asked_numbers : UpTo 10 (asked y s.known bs)
-  asked_numbers = (omega arith, (omega arith, (omega arith, (omega arith, (entry_asked_numbers y s.known note.entry).0))))
-
-  refused_with : (r : Result (Unit {0}) Refusal) (f : Refusal) → IsErrAnd r (λ h. h ≡ f) → Least (asked y s.known bs ++ let_in) (refusal_number f) → Named y s.known note.entry f → Sends s bs r s
-  refused_with r f exit least named =
-      let x = err_from_is_err_and r exit in
-      rw (x.1, x.2) (record { answer = least; refused = refl; named = named })
+  refused_with : (f : Refusal) → Least (send_asked s bs) (refusal_number f) → Named y s.known note.entry f → Sends s bs (Err f) s
+  refused_with f least named = record { number = told_least (send_asked s bs) f least; let_in = tt; refused = refl; named = named }
 
   -- a note that cannot be read
-  pub unread : (r : Result (Unit {0}) Refusal) (f : Refusal) → IsErrAnd r (λ h. h ≡ f) → Least (readable SentKind bs) (refusal_number f) → Sends s bs r s
-  unread r f exit least =
-      refused_with r f exit
-      (least_stop (asked y s.known bs) let_in 10 (refusal_number f) asked_numbers (placing_numbers s.held line)
-      (least_stop (readable SentKind bs) weighed 4 (refusal_number f) (readable_numbers bs) (entry_asked_numbers y s.known note.entry).1 least))
-      (unnamed y s.known note.entry f (λ eight. omega (arith, broken_up_to 4 (readable SentKind bs) (readable_numbers bs) (refusal_number f) least.0)))
+  pub unread : (f : Refusal) → Least read_asked (refusal_number f) → Sends s bs (Err f) s
+  unread f least =
+      refused_with f (least_stop read_asked (entry_asked y s.known note.entry ++ book_asked) (refusal_number f) in_order least)
+      (unnamed y s.known note.entry f (untold read_asked lack_number refl least))
 
-  -- a note that cannot be booked
-  pub unbooked : (n : Note) → n ≡ note → (r : Result (Unit {0}) Refusal) (f : Refusal) → IsErrAnd r (λ h. h ≡ f) → Kept (readable SentKind bs) → Least (entry_asked y s.known n.entry) (refusal_number f) → Named y s.known n.entry f → Sends s bs r s
-  unbooked n is r f exit read least named =
-      refused_with r f exit
-      (least_stop (asked y s.known bs) let_in 10 (refusal_number f) asked_numbers (placing_numbers s.held line)
-      (least_on (readable SentKind bs) weighed (refusal_number f) read (subst (λ m. Least (entry_asked y s.known m.entry) (refusal_number f)) is least)))
-      (subst (λ m. Named y s.known m.entry f) is named)
+  module _ (read : Kept read_asked) {sent : Sent} (says : SaysSent (first_note bs) sent) where
+    is : sent_note sent ≡ note
+    is = ap sent_note says.1
 
-  -- a note that is read and booked is answered as the book answers
-  pub booked : (n : Note) → n ≡ note → Kept (readable SentKind bs) → Kept (entry_asked y s.known n.entry) → (new : Taken) → new ≡ taken_of y s.known n → (r : Result (Unit {0}) Refusal) (before after : Book) → s.held ≡ taken before → Decided (placing s.held new) (λ _. taken after ≡ placed new s.held) r → IfErr r (λ _. after ≡ before) → Sends s bs r (record { building = s.building; known = s.known; held = taken after })
-  booked n is read book new put r before after same decided refused = go r decided refused
-    where
+    -- a note that cannot be booked
+    pub unbooked : (f : Refusal) → Least (entry_asked y s.known (sent_note sent).entry) (refusal_number f) → Named y s.known (sent_note sent).entry f → Sends s bs (Err f) s
+    unbooked f least named =
+        let fails = subst (λ n. Least (entry_asked y s.known n.entry) (refusal_number f)) is least in
+        refused_with f (least_stop (asked y s.known bs) book_asked (refusal_number f) in_order (least_on read_asked (entry_asked y s.known note.entry) (refusal_number f) read fails))
+        (subst (λ n. Named y s.known n.entry f) is named)
+
+    module _ (fit : Kept (entry_asked y s.known (sent_note sent).entry)) (new : Place) (new_of : taken_by new ≡ taken_of y s.known (sent_note sent)) where
       kept : Kept (asked y s.known bs)
-      kept = (read.0, (read.1.0, (read.1.1.0, (read.1.1.1.0, subst (λ m. Kept (entry_asked y s.known m.entry)) is book))))
+      kept = kept_both read_asked (entry_asked y s.known note.entry) read (subst (λ n. Kept (entry_asked y s.known n.entry)) is fit)
 
-      new_is : new ≡ line
-      new_is = put ∙ ap (taken_of y s.known) is
+      new_is : taken_by new ≡ line_sent s bs
+      new_is = new_of ∙ ap (taken_of y s.known) is
 
-      go : (r : Result (Unit {0}) Refusal) → Decided (placing s.held new) (λ _. taken after ≡ placed new s.held) r → IfErr r (λ _. after ≡ before) → Sends s bs r (record { building = s.building; known = s.known; held = taken after })
-      go (Ok u) d h =
-          let e : taken after ≡ placed line s.held = subst (λ t. taken after ≡ placed t s.held) new_is d.1 in
-          let k : Kept let_in = subst (λ t. Kept (placing s.held t)) new_is d.0 in
+      -- a note that is read and booked is answered as the book answers
+      pub booked : (before after : Book) (r : Result (Unit {0}) Refusal) → s.held ≡ taken before → Puts new before r after → Sends s bs r (record { building = s.building; known = s.known; held = taken after })
+      booked before after (Ok u) held_is puts =
+          let put = subst (λ l. Decided (placing s.held l) (λ _. taken after ≡ placed l s.held) (Ok u)) new_is (subst (λ h. Decided (placing h (taken_by new)) (λ _. taken after ≡ placed (taken_by new) h) (Ok u)) (sym held_is) puts.answer) in
           record {
-            answer = (kept_both (asked y s.known bs) let_in kept k, λ i. record { building = s.building; known = s.known; held = e i });
+            number = told_kept (send_asked s bs) (kept_both (asked y s.known bs) book_asked kept put.0);
+            let_in = ap (λ h. record { building = s.building; known = s.known; held = h }) put.1;
             refused = tt;
             named = tt;
           }
-      go (Err f) d h =
-          let l : Least let_in (refusal_number f) = subst (λ t. Least (placing s.held t) (refusal_number f)) new_is d in
-          let e : taken after ≡ s.held = ap taken h ∙ sym same in
+      booked before after (Err f) held_is puts =
+          let least : Least book_asked (refusal_number f) = subst (λ l. Least (placing s.held l) (refusal_number f)) new_is (subst (λ h. Least (placing h (taken_by new)) (refusal_number f)) (sym held_is) puts.answer) in
           record {
-            answer = least_on (asked y s.known bs) let_in (refusal_number f) kept l;
-            refused = λ i. record { building = s.building; known = s.known; held = e i };
-            named = unnamed y s.known note.entry f (λ eight. unbroken_below 10 let_in (placing_numbers s.held line) (refusal_number f) (omega arith) l.0);
+            number = told_least (send_asked s bs) f (least_on (asked y s.known bs) book_asked (refusal_number f) kept least);
+            let_in = tt;
+            refused = ap (λ h. record { building = s.building; known = s.known; held = h }) (ap taken puts.refused ∙ sym held_is);
+            named = unnamed y s.known note.entry f (untold book_asked lack_number refl least);
           }
+
+-- what is put into its book is all that becomes of a sheet
+module _ {S : Type 0} (sheet : Sheet S) {new : Place} {r : Result (Unit {0}) Refusal} {after : Book} (puts : Puts new sheet.book r after) where
+  abbrev with_book : Sheet S
+  with_book = record { building = sheet.building; source = sheet.source; book = after }
+
+  pub one_changed : IfOk r (λ _. OneChanged sheet with_book)
+  one_changed = IfOk-weaker r _ (λ _. OneChanged sheet with_book) (λ _ one. record { new = new; building = refl; source = refl; book = one }) puts.one
+
+  pub as_it_was : IfErr r (λ _. with_book ≡ sheet)
+  as_it_was = IfErr-weaker r _ (λ _. with_book ≡ sheet) (λ _ same i. record { building = sheet.building; source = sheet.source; book = same i }) puts.refused

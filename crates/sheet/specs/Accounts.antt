@@ -2,7 +2,7 @@
 use Rattle.std.specs.Prelude.{◌≡◌, ℕ, List, ◌∷◌, map, reverse, Result}
 use Rattle.refusals.specs.declared.refusal.Refusal.{Refusal}
 use Rattle.factors.specs.Maps.{Map}
-use Rattle.feed.specs.declared.building.BuildingNumbers.{BuildingNumbers}
+use Rattle.domain.specs.declared.building.BuildingNumbers.{BuildingNumbers}
 use Rattle.pages.specs.declared.figure.Figure.{Figure}
 use Rattle.pages.specs.Cuts.{Assignment}
 use Rattle.sheet.specs.Histories.{Event, sent, paged, graded, Run}

@@ -5,7 +5,7 @@ use Rattle.std.specs.Option.{option_to_list}
 use Rattle.exact.specs.Adding.{plus, negated}
 use Rattle.exact.specs.Rounding.{Fraction, over}
 use Rattle.factors.specs.Maps.{Map}
-use Rattle.booking.specs.declared.entry.Entry.{Entry}
+use Rattle.domain.specs.declared.entry.Entry.{Entry}
 use Rattle.booking.specs.Booked.{Booked, exact_grams, booked}
 use Rattle.booking.specs.Rows.{subtracted}
 use Rattle.booking.specs.Weights.{most_grams, signed_grams}

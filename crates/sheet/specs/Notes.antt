@@ -4,13 +4,9 @@ use Rattle.refusals.specs.declared.refusal.Refusal.{Refusal}
 use Rattle.refusals.specs.Refusals.{Conditions}
 use Rattle.factors.specs.Maps.{Map}
 use Rattle.feed.specs.declared.sent.Sent.{Sent}
-use Rattle.feed.specs.declared.sent.Sent.TheVariants.{Entry as SentAsEntry, Withdrawal as SentAsWithdrawal}
-use Rattle.feed.specs.Entries.{note_number, note_revision}
-use Rattle.feed.specs.Frames.{note_kind}
-use Rattle.feed.specs.Sendings.{sent_number, sent_revision}
-use Rattle.booking.specs.declared.entry.Entry.{Entry}
+use Rattle.feed.specs.Sendings.{entry_in, sent_of}
+use Rattle.domain.specs.declared.entry.Entry.{Entry}
 use Rattle.booking.specs.Booked.{Names, content, booked}
-use Rattle.booking.specs.Entries.{booked_entry, kind_entry}
 use Rattle.sheet.specs.Places.{Taken}
 
 -- a note by its number and its revision, with its entry if it is one
@@ -19,17 +15,13 @@ pub record Note : Type 0 where
   pub revision : ℕ
   pub entry : Option Entry
 
--- what the bytes of a note say to a sheet
-abbrev pub note_of : List ℕ → Note
-note_of note = record { number = note_number note; revision = note_revision note; entry = kind_entry (note_kind note) note }
-
 -- what a note that was read says to a sheet
-abbrev pub sent_entry : Sent → Option Entry
-sent_entry (SentAsEntry e) = Some (booked_entry e)
-sent_entry (SentAsWithdrawal w) = None
-
 abbrev pub sent_note : Sent → Note
-sent_note s = record { number = sent_number s; revision = sent_revision s; entry = sent_entry s }
+sent_note s = record { number = s.number; revision = s.revision; entry = entry_in s.content }
+
+-- what the bytes of a note say to it
+abbrev pub note_of : List ℕ → Note
+note_of note = sent_note (sent_of note)
 
 -- in a building with a life of y years, at the factors of a map
 module _ (y : ℕ) (known : Map) where

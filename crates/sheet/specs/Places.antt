@@ -1,5 +1,5 @@
 -- What the places of a book hold, by numbers. Assumes nothing.
-use Rattle.std.specs.Prelude.{ℕ, List, take, map, Some, None, Option}
+use Rattle.std.specs.Prelude.{◌≡◌, ℕ, ◌+◌, ◌<◌, ◌⊎◌, List, length, set, take, map, Some, None, Option}
 use Rattle.booking.specs.Booked.{Booked}
 use Rattle.booking.specs.Rows.{row_number}
 use Rattle.sheet.specs.declared.book.Book.{Book}
@@ -26,6 +26,13 @@ held_line (Entry r) = Some (record_numbers r)
 -- a place by its numbers
 abbrev pub taken_by : Place → Taken
 taken_by p = record { number = p.number; revision = p.revision; line = held_line p.held }
+
+-- the line new stands in one place, and every other place is as it was; the place was in use before, or is the next one
+pub record OnePlace (new : Place) (before after : Book) : Type 0 where
+  pub at : ℕ
+  pub within : at < length before.places
+  pub places : after.places ≡ set before.places at new
+  pub used : (after.used ≡ before.used) ⊎ ((at ≡ before.used) × (after.used ≡ before.used + 1))
 
 -- the places that are in use
 abbrev pub in_use : Book → List Place

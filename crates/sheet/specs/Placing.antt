@@ -1,10 +1,13 @@
 -- Which lines a book lets in, and where they go. Assumes nothing.
-use Rattle.std.specs.Prelude.{◌≡◌, ℕ, ◌<◌, ◌⊎◌, if◌then◌else◌, List, [], ◌∷◌, ◌++◌, length, map, Some, None, Option, ◌==◌}
+use Rattle.std.specs.Prelude.{◌≡◌, ℕ, ◌<◌, ◌⊎◌, if◌then◌else◌, List, [], ◌∷◌, ◌++◌, length, map, Some, None, Option, IfOk, IfErr, Result, ◌==◌}
 use Rattle.refusals.specs.declared.refusal.Refusal.TheVariants.{Superseded, Contradicted, BookFull}
-use Rattle.refusals.specs.Refusals.{refusal_number, Conditions}
+use Rattle.refusals.specs.declared.refusal.Refusal.{Refusal}
+use Rattle.refusals.specs.Refusals.{refusal_number, Conditions, Decided}
 use Rattle.booking.specs.Booked.{Booked}
 use Rattle.totals.specs.Sizes.{most_count}
-use Rattle.sheet.specs.Places.{Taken}
+use Rattle.sheet.specs.declared.book.Book.{Book}
+use Rattle.sheet.specs.declared.place.Place.{Place}
+use Rattle.sheet.specs.Places.{Taken, taken_by, taken, OnePlace}
 
 -- two lines are equal: both are withdrawn, or row, span, code and booked thousandths agree
 abbrev pub EqualLines : Option Booked → Option Booked → Type 0
@@ -49,3 +52,9 @@ placing held new = replacing new (under new.number held) ++ ((refusal_number Boo
 abbrev pub placed : Taken → List Taken → List Taken
 placed new [] = new ∷ []
 placed new (t ∷ ts) = if t.number == new.number then new ∷ ts else t ∷ placed new ts
+
+-- the line new is put into the book: r is answered, and the book is `after` then. Where it is let in, one place is changed, and where it is refused, none
+pub record Puts (new : Place) (before : Book) (r : Result (Unit {0}) Refusal) (after : Book) : Type 0 where
+  pub answer : Decided (placing (taken before) (taken_by new)) (λ _. taken after ≡ placed (taken_by new) (taken before)) r
+  pub one : IfOk r (λ _. OnePlace new before after)
+  pub refused : IfErr r (λ _. after ≡ before)

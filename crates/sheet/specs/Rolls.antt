@@ -5,7 +5,7 @@ use Rattle.std.specs.Option.{option_to_list}
 use Rattle.refusals.specs.Refusals.{Broken}
 use Rattle.factors.specs.Maps.{Map}
 use Rattle.feed.specs.Frames.{first_note}
-use Rattle.booking.specs.declared.entry.Entry.{Entry}
+use Rattle.domain.specs.declared.entry.Entry.{Entry}
 use Rattle.sheet.specs.Notes.{Note, note_of}
 use Rattle.sheet.specs.Placing.{Room}
 use Rattle.sheet.specs.States.{asked}

@@ -1,13 +1,13 @@
 // One sheet, from its opening to a page and its grade.
 ghost use Rattle.std.specs.Prelude.{reverse, map, take, IfOk};
-ghost use Rattle.feed.specs.Buildings.{numbers_of};
+ghost use Rattle.domain.specs.Buildings.{numbers_of};
 ghost use Rattle.grades.specs.Grades.{grade_number};
 ghost use Rattle.sheet.specs.Accounts.{Accounted};
 ghost use Rattle.sheet.specs.Laws.{LawfulPage, LawfulGrade};
 
 use crate::sheet::Sheet;
+use domain::Building;
 use factors::FactorSource;
-use feed::building::Building;
 use grades::Grade;
 use pages::{Cut, Figure};
 use refusals::Refusal;

@@ -1,11 +1,10 @@
 // The book: a place for each number, in the order in which numbers first came.
-ghost use Rattle.std.specs.Prelude.{◌≡◌, [], ◌==◌, length, IfErr};
+ghost use Rattle.std.specs.Prelude.{◌≡◌, ◌<◌, ◌≤◌, [], ◌==◌, length, Some, None, MatchBool};
 ghost use Rattle.std.specs.List.{position};
-ghost use Rattle.refusals.specs.Refusals.{Decided};
 ghost use Rattle.sheet.specs.Lines.{lines, sums_of_lines};
 ghost use Rattle.totals.specs.Sums.{sums_of};
-ghost use Rattle.sheet.specs.Places.{taken_by, in_use, taken};
-ghost use Rattle.sheet.specs.Placing.{placing, placed};
+ghost use Rattle.sheet.specs.Places.{in_use, taken};
+ghost use Rattle.sheet.specs.Placing.{Puts};
 
 use crate::place::{EMPTY, Place};
 use refusals::Refusal;
@@ -66,22 +65,40 @@ impl Book {
 
     // Lets a line in: in place of the one under its number, if it is of a higher revision, or in the next place.
     pub(crate) fn put(&mut self, new: Place) -> Result<(), Refusal>
-        ensures value { Decided (placing (taken self.old) (taken_by new)) (λ _. taken self.new ≡ placed (taken_by new) (taken self.old)) result }
-        ensures refused { IfErr result (λ _. self.new ≡ self.old) }
+        ensures value { Puts new self.old result self.new }
     {
         match self.find(new.number) {
-            Some(at) => {
-                new.replaces(&self.places[at])?;
-                self.places[at] = new;
-            }
-            None => {
-                if self.used >= PLACES {
-                    return Err(Refusal::BookFull);
-                }
-                self.places[self.used] = new;
-                self.used += 1;
-            }
+            Some(at) => self.replace(at, new),
+            None => self.add(new),
         }
+    }
+
+    // In place of the line at this place, the first under its number.
+    fn replace(&mut self, at: usize, new: Place) -> Result<(), Refusal>
+        requires { position (λ p. p.number == new.number) (in_use self.now) ≡ Some at }
+        ensures { Puts new self.old result self.new }
+    {
+        new.replaces(&self.places[at])?;
+        self.places[at] = new;
         Ok(())
+    }
+
+    // In the next place, where none has its number.
+    fn add(&mut self, new: Place) -> Result<(), Refusal>
+        requires { position (λ p. p.number == new.number) (in_use self.now) ≡ None }
+        ensures { Puts new self.old result self.new }
+    {
+        if self.is_full() {
+            return Err(Refusal::BookFull);
+        }
+        self.places[self.used] = new;
+        self.used += 1;
+        Ok(())
+    }
+
+    fn is_full(&self) -> bool
+        ensures { MatchBool result (PLACES ≤ self.now.used) (self.now.used < PLACES) }
+    {
+        self.used >= PLACES
     }
 }

@@ -3,15 +3,15 @@ ghost use Rattle.std.specs.Prelude.{◌≡◌, Some, MatchBool, IfErr, option_ma
 ghost use Rattle.refusals.specs.Refusals.{Decided};
 ghost use Rattle.booking.specs.Booked.{line_numbers};
 ghost use Rattle.sheet.specs.Lines.{in_range};
-ghost use Rattle.sheet.specs.Notes.{entry_asked, Named, sent_entry, sent_note, taken_of};
+ghost use Rattle.sheet.specs.Notes.{entry_asked, Named, sent_note, taken_of};
 ghost use Rattle.sheet.specs.Places.{held_line, taken_by};
 ghost use Rattle.sheet.specs.Placing.{EqualLines, replacing};
 
 use crate::record::Record;
 use booking::Line;
+use domain::Building;
 use factors::FactorSource;
-use feed::building::Building;
-use feed::sent::Sent;
+use feed::sent::{Sent, SentContent};
 use refusals::Refusal;
 
 #[derive(Clone, Copy, Debug, PartialEq, Eq)]
@@ -60,19 +60,19 @@ impl Place {
         building: &Building,
         source: &S,
     ) -> Result<Place, Refusal>
-        ensures value { Decided (entry_asked building.now.life (S.known source.now) (sent_entry sent.now)) (λ p. taken_by p ≡ taken_of building.now.life (S.known source.now) (sent_note sent.now)) result }
-        ensures named { IfErr result (Named building.now.life (S.known source.now) (sent_entry sent.now)) }
+        ensures value { Decided (entry_asked building.now.life (S.known source.now) (sent_note sent.now).entry) (λ p. taken_by p ≡ taken_of building.now.life (S.known source.now) (sent_note sent.now)) result }
+        ensures named { IfErr result (Named building.now.life (S.known source.now) (sent_note sent.now).entry) }
     {
-        let held = match sent {
-            Sent::Entry(entry) => {
-                let line = booking::book(building, source, &(*entry).into())?;
+        let held = match sent.content {
+            SentContent::Entry(entry) => {
+                let line = booking::book(building, source, &entry.into())?;
                 Held::Entry(line.into())
             }
-            Sent::Withdrawal(_) => Held::Withdrawn,
+            SentContent::Withdrawal => Held::Withdrawn,
         };
         Ok(Place {
-            number: sent.number(),
-            revision: sent.revision(),
+            number: sent.number,
+            revision: sent.revision,
             held,
         })
     }

@@ -1,17 +1,17 @@
 // The sheet.
-ghost use Rattle.std.specs.Prelude.{◌≡◌, List, ◌∷◌, IfErr};
-ghost use Rattle.feed.specs.Buildings.{numbers_of};
+ghost use Rattle.std.specs.Prelude.{◌≡◌, List, ◌∷◌, IfOk, IfErr};
+ghost use Rattle.domain.specs.Buildings.{numbers_of};
 ghost use Rattle.factors.specs.Maps.{Map};
-ghost use Rattle.feed.specs.declared.building.BuildingNumbers.{BuildingNumbers};
+ghost use Rattle.domain.specs.declared.building.BuildingNumbers.{BuildingNumbers};
 ghost use Rattle.grades.specs.Grades.{grade_number};
 ghost use Rattle.sheet.specs.Histories.{Pages, Grades, Event, sent, paged, graded, Run};
 ghost use Rattle.sheet.specs.Laws.{Lawful};
-ghost use Rattle.sheet.specs.States.{state_of, opened, Sends};
+ghost use Rattle.sheet.specs.States.{state_of, opened, OneChanged, Sends};
 
 use crate::book::Book;
 use crate::place::Place;
+use domain::Building;
 use factors::FactorSource;
-use feed::building::Building;
 use feed::sent::Sent;
 use grades::Grade;
 use pages::{Cut, Figure};
@@ -39,6 +39,7 @@ impl<S: FactorSource> Sheet<S> {
     // Lets in the first note of the bytes, if it is fit, and of a higher revision than what is held under its number; else refuses it, and nothing is changed.
     pub fn send(&mut self, bytes: &[u8]) -> Result<(), Refusal>
         ensures value { Sends (state_of S.known self.old) bytes.now result (state_of S.known self.new) }
+        ensures changed { IfOk result (λ _. OneChanged self.old self.new) }
         ensures refused { IfErr result (λ _. self.new ≡ self.old) }
         ensures law { (b : BuildingNumbers) (known : Map) (before : List Event) → Run b known before (state_of S.known self.old) → Lawful b known (sent bytes.now result ∷ before) }
     {

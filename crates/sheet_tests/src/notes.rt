@@ -1,19 +1,22 @@
 // Notes and what they are judged by: a house of 1,000 square metres over 50 years, and one factor of 0.4 grams a thousandth of a kilogram, under two codes.
+use domain::{Building, BuildingNumbers, FactorNumbers, FactorRow};
 use factors::ProjectList;
-use feed::building::{Building, BuildingNumbers};
-use feed::factor::FactorRow;
 use refusals::Refusal;
 
 pub(crate) const FACTORS: [FactorRow; 2] = [
     FactorRow {
         code: 7,
-        amount: 4_000,
-        unit: 4,
+        factor: FactorNumbers {
+            amount: 4_000,
+            unit: 4,
+        },
     },
     FactorRow {
         code: 8,
-        amount: 4_000,
-        unit: 4,
+        factor: FactorNumbers {
+            amount: 4_000,
+            unit: 4,
+        },
     },
 ];
 

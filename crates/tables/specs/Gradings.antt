@@ -1,6 +1,6 @@
 -- By which weights a building is given a grade. Assumes nothing.
 use Rattle.std.specs.Prelude.{ℕ, ◌+◌, ◌-◌, ◌*◌, ◌≤◌, pos}
-use Rattle.feed.specs.declared.building.BuildingNumbers.{BuildingNumbers}
+use Rattle.domain.specs.declared.building.BuildingNumbers.{BuildingNumbers}
 use Rattle.grades.specs.Grades.{Awarded}
 
 -- the building is given the grade, or a higher one, where the energy of its use weighs so many grams

@@ -1,6 +1,6 @@
 -- The buildings that are asked about. Assumes nothing.
 use Rattle.std.specs.Prelude.{ℕ}
-use Rattle.feed.specs.declared.building.BuildingNumbers.{BuildingNumbers}
+use Rattle.domain.specs.declared.building.BuildingNumbers.{BuildingNumbers}
 
 -- a square metre, which is ten tenths of one, for a year
 abbrev pub square_metre : (region sun building_type reference : ℕ) → BuildingNumbers

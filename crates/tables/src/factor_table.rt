@@ -1,5 +1,5 @@
 // The built-in factors, beside the accounting draft's table of refrigerants and the zero-carbon draft's figure for electricity.
-use codes::FactorUnit;
+use domain::FactorUnit;
 use factors::{BuiltIn, FactorSource};
 use std::{fmt, io};
 

@@ -1,12 +1,12 @@
 // Whether a building is given a grade, by what the energy of its use weighs.
 ghost use Rattle.std.specs.Prelude.{◌≡◌, ◌+◌, ◌^◌, ◌<◌, ◌↔◌, IsTrue, pos};
-ghost use Rattle.feed.specs.Buildings.{numbers_of};
+ghost use Rattle.domain.specs.Buildings.{numbers_of};
 ghost use Rattle.totals.specs.Sums.{sums_of};
 ghost use Rattle.grades.specs.Grades.{grade_number, weight};
 ghost use Rattle.tables.specs.Gradings.{IsGiven, JustGiven};
 
 use booking::Row;
-use feed::building::Building;
+use domain::Building;
 use grades::{Grade, grade};
 use totals::{ROWS, Totals};
 

@@ -3,8 +3,7 @@ use crate::given::is_given;
 use crate::names::{OTHERS, REGIONS};
 use crate::search::{LIMIT_GRAMS, largest_limit};
 use crate::site::{NO_REFERENCE, square_metre};
-use codes::BuildingType;
-use feed::building::Building;
+use domain::{Building, BuildingType};
 use grades::Grade;
 use std::io;
 

@@ -1,5 +1,5 @@
 // What the rows and columns of the tables are called.
-use codes::{BuildingType, Region};
+use domain::{BuildingType, Region};
 use grades::Grade;
 
 pub(crate) const GRADES: [(Grade, &str); 2] = [

@@ -2,8 +2,7 @@
 use crate::names::{GRADES, REGIONS};
 use crate::search::{REFERENCE, largest_share};
 use crate::site::square_metre;
-use codes::BuildingType;
-use feed::building::Building;
+use domain::{Building, BuildingType};
 use grades::Grade;
 use std::io;
 

@@ -1,11 +1,11 @@
 // What a grade demands, which no call tells: it is found by the weights at which the grade is still given.
-ghost use Rattle.feed.specs.Buildings.{numbers_of};
+ghost use Rattle.domain.specs.Buildings.{numbers_of};
 ghost use Rattle.grades.specs.Grades.{grade_number};
 ghost use Rattle.tables.specs.Gradings.{GivenWithin, GivenBelow};
 ghost use Rattle.tables.specs.Searches.{Largest};
 
 use crate::given::{is_given, is_just_given};
-use feed::building::Building;
+use domain::Building;
 use grades::Grade;
 
 // Past the limits that are tried, in tenths of a kilogram per square metre and year: no printed one is half as high.

@@ -1,12 +1,11 @@
 // The buildings that are asked about.
 ghost use Rattle.std.specs.Prelude.{◌≡◌};
-ghost use Rattle.codes.specs.Codes.{region_number, type_number};
-ghost use Rattle.codes.specs.Ranges.{SunRange, ReferenceRange};
-ghost use Rattle.feed.specs.Buildings.{numbers_of};
+ghost use Rattle.domain.specs.Numbers.{region_number, type_number};
+ghost use Rattle.domain.specs.Ranges.{SunRange, ReferenceRange};
+ghost use Rattle.domain.specs.Buildings.{numbers_of};
 ghost use Rattle.tables.specs.Sites.{square_metre};
 
-use codes::{BuildingType, Region};
-use feed::building::Building;
+use domain::{Building, BuildingType, Region};
 
 // A square metre, in tenths of one.
 const AREA: u32 = 10;

@@ -1,5 +1,5 @@
 use Rattle.std.proofs.Common.{sym, ◌∙◌, rules}
-use Rattle.feed.specs.Buildings.{numbers_of}
+use Rattle.domain.specs.Buildings.{numbers_of}
 use Rattle.grades.specs.Grades.{grams_over_life}
 use Rattle.grades.proofs.Ratio.{no_home, compared}
 use Rattle.grades.proofs.demands.ratio_holds.Goals as goal

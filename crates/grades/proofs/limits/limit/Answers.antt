@@ -1,6 +1,6 @@
 use Rattle.std.proofs.Common.{◌-◌, get_or, Some, sym, ap, ◌∙◌, map}
 use Rattle.std.proofs.lemmas.List.{at_drop_all}
-use Rattle.feed.specs.Buildings.{numbers_of}
+use Rattle.domain.specs.Buildings.{numbers_of}
 use Rattle.grades.specs.Limits.{limit, row_numbers}
 use Rattle.grades.proofs.First.{row_at, answers, passes, ends}
 use Rattle.grades.proofs.limits.limit.Goals as goal

@@ -1,5 +1,5 @@
 use Rattle.std.proofs.Common.{◌≡◌, map, drop}
-use Rattle.feed.specs.Buildings.{numbers_of}
+use Rattle.domain.specs.Buildings.{numbers_of}
 use Rattle.grades.specs.Limits.{limit, row_numbers}
 use Rattle.grades.proofs.limits.limit.Given as goal
 

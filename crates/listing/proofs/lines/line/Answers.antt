@@ -1,14 +1,14 @@
 use Rattle.std.proofs.Common.{string_bytes}
 use Rattle.std.proofs.lemmas.Result.{IfOk-weaker}
 use Rattle.listing.specs.Lines.{Line}
-use Rattle.listing.specs.Openings.{basis_of}
+use Rattle.listing.specs.Bases.{basis_of}
 use Rattle.listing.proofs.Only.{line_only}
 use Rattle.listing.proofs.lines.line.Goals as goal
 
 pub returns : goal.returns
 returns c =
     let part = c.args.part.now in
-    let basis = basis_of c.args.opening.now in
+    let basis = basis_of c.args.basis.now in
     let value =
     IfOk-weaker c.format.result _ (λ s. Line basis part.place part.start part.bytes.now (string_bytes s)) (λ s e. record { said = _; tells = c.of-statement.ensures; text = e }) c.format.ensures.ok in
     record { value = value; only = IfOk-weaker c.format.result _ _ (λ s line other more. line_only basis _ _ part.bytes.now _ _ more line) value }

@@ -1,5 +1,5 @@
 use Rattle.std.proofs.Common.{◌++◌, string_bytes, ap, ◌∙◌}
-use Rattle.feed.specs.Buildings.{numbers_of}
+use Rattle.domain.specs.Buildings.{numbers_of}
 use Rattle.factors.specs.Layers.{project_map}
 use Rattle.report.specs.Projects.{parts_of}
 use Rattle.report.proofs.Concluding.{written}

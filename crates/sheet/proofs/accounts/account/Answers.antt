@@ -1,5 +1,5 @@
 use Rattle.std.proofs.Common.{subst, sym}
-use Rattle.feed.specs.Buildings.{numbers_of}
+use Rattle.domain.specs.Buildings.{numbers_of}
 use Rattle.sheet.specs.Histories.{page, grade}
 use Rattle.sheet.specs.States.{state_of}
 use Rattle.sheet.proofs.Accounting.{Sofar, none_sent, one_sent, bytes_are, page_drawn, grade_given, one_more, all_of}

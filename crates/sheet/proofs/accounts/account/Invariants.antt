@@ -1,5 +1,5 @@
 use Rattle.std.proofs.Common.{map, take}
-use Rattle.feed.specs.Buildings.{numbers_of}
+use Rattle.domain.specs.Buildings.{numbers_of}
 use Rattle.sheet.specs.States.{state_of}
 use Rattle.sheet.proofs.Accounting.{Sofar}
 use Rattle.sheet.proofs.accounts.account.Given as goal

@@ -1,4 +1,4 @@
-use Rattle.feed.specs.Buildings.{numbers_of}
+use Rattle.domain.specs.Buildings.{numbers_of}
 use Rattle.grades.specs.Grades.{grade_number}
 use Rattle.tables.specs.Gradings.{GivenWithin}
 use Rattle.tables.specs.Searches.{Largest}

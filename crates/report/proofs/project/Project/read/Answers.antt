@@ -1,37 +1,26 @@
-use Rattle.std.proofs.Common.{Ok, Err, vec_items, sym, ◌∙◌, subst, arith}
-use Rattle.report.proofs.Listed.{with_left, none_yet, one_more, no_more, one_refused}
-use Rattle.report.proofs.Opening.{refused_with, for_memory, too_many_bytes, opens_with}
-use Rattle.report.specs.Projects.{Opens, no_building, ReadsRow}
-use Rattle.feed.specs.Buildings.{numbers_of}
+use Rattle.std.proofs.Common.{ℕ, List, sym, subst, vec_items}
+use Rattle.std.proofs.lemmas.Result.{err_from_is_err_and}
+use Rattle.feed.specs.Rows.{RowsRead}
+use Rattle.report.proofs.Opening.{refused_long, not_opened, row_not_taken, taken}
 use Rattle.report.proofs.project.Project.read.Goals as goal
 
-pub returns-then-feed-gt-MOST_BYTES : goal.returns-then-feed-gt-MOST_BYTES
-returns-then-feed-gt-MOST_BYTES c = rw c.into.ensures (too_many_bytes c.args.feed.now c.if-feed-gt-MOST_BYTES.true)
+pub returns-in_err-short : goal.returns-in_err-short
+returns-in_err-short c =
+    let exit = err_from_is_err_and c.from_residual.result c.from_residual.ensures.1 in
+    rw (exit.1, exit.2, c.in_err-short.ensures.0) (refused_long c.args.feed.now c.in_err-short.ensures.1)
 
-pub returns-in_err-building : goal.returns-in_err-building
-returns-in_err-building c =
-    refused_with c.args.feed.now _ c.in_err-building.field-0.0 c.from_residual.ensures.1 (no_building (omega (arith, c.if-feed-gt-MOST_BYTES.false), tt) c.in_err-building.ensures.value)
+pub returns-in_err-opening : goal.returns-in_err-opening
+returns-in_err-opening c =
+    let exit = err_from_is_err_and c.from_residual-in_err-opening.result c.from_residual-in_err-opening.ensures.1 in
+    rw (exit.1, exit.2) (not_opened c.args.feed.now c.in_ok-short.ensures.0 c.in_err-opening.field-0.0 c.in_err-opening.ensures)
 
-pub returns-in_err-row : goal.returns-in_err-row
-returns-in_err-row c =
-    let reads = subst (λ n. ReadsRow n c.in-Some.note.bytes.now (Err c.in_err-row.field-0.0)) (c.len.ensures ∙ c.loop-note.rows.ok.0) c.in_err-row.ensures in
-    let ends = one_refused _ _ _ _ c.loop-note.invariant c.in-Some.note _ c.in-Some.ensures c.in_err-row.field-0.0 reads in
-    refused_with c.args.feed.now _ c.in_err-row.field-0.0 c.from_residual-in_err-row.ensures.1
-    (opens_with c.args.feed.now c.in_ok-building.building _ _ _ _ (omega (arith, c.if-feed-gt-MOST_BYTES.false), tt) c.in_ok-building.ensures.value c.new-reader.ensures c.next.ensures.value ends)
-
-pub returns-in_err-push : goal.returns-in_err-push
-returns-in_err-push c = for_memory c.args.feed.now _ c.from_residual-in_err-push.ensures.1
-
-pub loop-note-init : goal.loop-note-init
-loop-note-init c = none_yet (numbers_of c.in_ok-building.building) _ _ c.new-rows.ensures.items
-
-pub loop-note-preserved : goal.loop-note-preserved
-loop-note-preserved c =
-    let reads = subst (λ n. ReadsRow n c.in-Some.note.bytes.now (Ok c.in_ok-row.row)) (c.len.ensures ∙ c.loop-note.rows.ok.0) c.in_ok-row.ensures in
-    one_more _ _ _ _ c.loop-note.invariant c.in-Some.note _ c.in-Some.ensures c.in_ok-row.row _ reads c.in_ok-push.ensures.items
+pub returns-in_err-rows : goal.returns-in_err-rows
+returns-in_err-rows c =
+    let exit = err_from_is_err_and c.from_residual-in_err-rows.result c.from_residual-in_err-rows.ensures.1 in
+    let own = λ (notes : List (List ℕ)) (read : RowsRead notes (vec_items c.in_ok-opening.opening.rows)). c.in_err-rows.ensures notes (subst (RowsRead notes) (sym c.as_slice.ensures.value) read) in
+    rw (exit.1, exit.2) (row_not_taken c.args.feed.now c.in_ok-short.ensures.0 c.in_ok-opening.ensures c.in_err-rows.field-0.0 own)
 
 pub returns : goal.returns
 returns c =
-    let ends = no_more _ _ _ _ c.loop-note.invariant c.next_row.new.self c.in_default.ensures in
-    let opens = opens_with c.args.feed.now c.in_ok-building.building _ _ _ _ (omega (arith, c.if-feed-gt-MOST_BYTES.false), tt) c.in_ok-building.ensures.value c.new-reader.ensures c.next.ensures.value ends in
-    subst (λ bs. Opens c.args.feed.now (Ok (with_left (numbers_of c.in_ok-building.building) (vec_items c.loop-note.rows) bs))) (sym c.left.ensures.bytes) opens
+    let own = λ (notes : List (List ℕ)) (read : RowsRead notes (vec_items c.in_ok-opening.opening.rows)). c.in_ok-rows.ensures notes (subst (RowsRead notes) (sym c.as_slice.ensures.value) read) in
+    rw c.left.ensures.bytes (taken c.args.feed.now c.in_ok-short.ensures.0 c.in_ok-opening.ensures (vec_items c.in_ok-rows.rows) own)

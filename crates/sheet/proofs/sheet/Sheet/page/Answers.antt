@@ -12,4 +12,4 @@ returns g c =
       lawful = g.met.C.Cut.lawful c.args.cut.now;
       writes = subst (λ sums. Writes cut sums c.args.figures.now c.write.result c.write.new.figures) c.totals.ensures c.write.ensures.value;
     } in
-    record { value = drawn; law = λ b known before run. lawful b known _ _ (page run drawn) }
+    record { value = drawn; law = λ b known before run. lawful b known (page run drawn) }

@@ -1,3 +1,0 @@
-pub mod Codes
-pub mod Ranges
-pub mod Words

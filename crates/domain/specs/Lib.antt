@@ -1,0 +1,5 @@
+pub mod Ranges
+pub mod Numbers
+pub mod Buildings
+pub mod Factors
+pub mod Words

@@ -1,0 +1,67 @@
+// A factor: how much carbon one unit of something stands for.
+ghost use Rattle.std.specs.Prelude.{◌≡◌, Some};
+ghost use Rattle.domain.specs.Ranges.{AmountRange};
+
+use crate::units::FactorUnit;
+use refusals::Refusal;
+use std::fmt;
+
+const MOST_AMOUNT: u32 = 1_000_000_000;
+
+// Every factor that exists keeps its range.
+#[derive(Clone, Copy, Debug, PartialEq, Eq)]
+pub struct Factor {
+    // in tenths of a gram of carbon dioxide equivalent
+    pub amount: u32,
+    pub unit: FactorUnit,
+    ghost amount_within: { AmountRange amount },
+}
+
+// The numbers of a factor as they came: its amount may be out of range, and its unit a number that has no name.
+#[derive(Clone, Copy, Debug, PartialEq, Eq)]
+pub struct FactorNumbers {
+    pub amount: u32,
+    pub unit: u16,
+}
+
+// A row of a list of factors, as it came.
+#[derive(Clone, Copy, Debug, PartialEq, Eq)]
+pub struct FactorRow {
+    pub code: u32,
+    pub factor: FactorNumbers,
+}
+
+// The factor of these numbers, if each is in range.
+impl TryFrom<FactorNumbers> for Factor {
+    ghost use Rattle.domain.specs.Factors.{factor_numbers, FactorInRange};
+    ghost use Rattle.refusals.specs.declared.refusal.Refusal.TheVariants.{OutOfRange};
+    ghost use Rattle.refusals.specs.Refusals.{Judged};
+
+    type Error = Refusal;
+
+    ghost try_from_gives = { λ n r. Judged (FactorInRange n) OutOfRange (λ f. factor_numbers f ≡ n) r };
+
+    fn try_from(n: FactorNumbers) -> Result<Factor, Refusal> {
+        if n.amount > MOST_AMOUNT {
+            return Err(Refusal::OutOfRange);
+        }
+        Ok(Factor {
+            amount: n.amount,
+            unit: n.unit.try_into()?,
+        })
+    }
+}
+
+// Its fields by name.
+impl fmt::Display for FactorRow {
+    ghost use Rattle.domain.specs.Words.{fields_said, row_fields};
+
+    ghost output = { λ row. Some (fields_said (row_fields row)) };
+
+    fn fmt<W: fmt::Write>(&self, f: &mut fmt::Formatter<W>) -> fmt::Result {
+        let code = self.code;
+        let amount = self.factor.amount;
+        let unit = self.factor.unit;
+        write!(f, "code={code} amount={amount} unit={unit}")
+    }
+}

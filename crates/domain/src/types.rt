@@ -1,0 +1,49 @@
+// What buildings are for, by the numbers in a feed.
+ghost use Rattle.std.specs.Prelude.{◌≡◌};
+ghost use Rattle.domain.specs.Numbers.{type_number};
+ghost use Rattle.domain.specs.Ranges.{TypeRange};
+ghost use Rattle.refusals.specs.declared.refusal.Refusal.TheVariants.{OutOfRange};
+ghost use Rattle.refusals.specs.Refusals.{Judged};
+
+use refusals::Refusal;
+
+// What a building is for.
+#[derive(Clone, Copy, Debug, PartialEq, Eq)]
+pub enum BuildingType {
+    Residential = 1,
+    SmallOffice = 2,
+    LargeOffice = 3,
+    SmallHotel = 4,
+    LargeHotel = 5,
+    Shop = 6,
+    Hospital = 7,
+    School = 8,
+}
+
+impl TryFrom<u16> for BuildingType {
+    type Error = Refusal;
+
+    ghost try_from_gives = { λ n r. Judged (TypeRange n) OutOfRange (λ building_type. type_number building_type ≡ n) r };
+
+    fn try_from(n: u16) -> Result<BuildingType, Refusal> {
+        match n {
+            1 => Ok(BuildingType::Residential),
+            2 => Ok(BuildingType::SmallOffice),
+            3 => Ok(BuildingType::LargeOffice),
+            4 => Ok(BuildingType::SmallHotel),
+            5 => Ok(BuildingType::LargeHotel),
+            6 => Ok(BuildingType::Shop),
+            7 => Ok(BuildingType::Hospital),
+            8 => Ok(BuildingType::School),
+            _ => Err(Refusal::OutOfRange),
+        }
+    }
+}
+
+impl From<BuildingType> for u16 {
+    ghost from_gives = { λ building_type n. n ≡ type_number building_type };
+
+    fn from(building_type: BuildingType) -> u16 {
+        building_type as u16
+    }
+}

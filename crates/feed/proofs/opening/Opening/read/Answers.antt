@@ -1,0 +1,20 @@
+use Rattle.feed.proofs.Beginning.{first_passed}
+use Rattle.feed.proofs.Ending.{fewer_left}
+use Rattle.feed.proofs.Rows.{no_rows_yet, row_more, no_row_more}
+use Rattle.feed.proofs.opening.Opening.read.Goals as goal
+
+pub loop-note-init : goal.loop-note-init
+loop-note-init c = no_rows_yet c.next.new.self c.new-rows.ensures.items
+
+pub loop-note-smaller : goal.loop-note-smaller
+loop-note-smaller c = fewer_left c.in-Some.ensures.1
+
+pub loop-note-preserved : goal.loop-note-preserved
+loop-note-preserved c = row_more c.loop-note.invariant c.read_row.result c.in-Some.ensures c.read_row.ensures.value c.in_ok-push.ensures.items
+
+pub returns : goal.returns
+returns c =
+    let reads = c.in_ok-building.ensures.value in
+    let found = no_row_more c.loop-note.invariant c.in_default.ensures in
+    let passed = first_passed c.next.result c.next.new.self c.new-rest.ensures c.next.ensures.value reads.0.0 in
+    record { notes = found.notes; opens = record { building = reads; rows = rw passed at found.rows }; read = found.read }

@@ -1,0 +1,48 @@
+-- The kinds of notes: their numbers, their lengths and their words. Assumes nothing.
+use Rattle.std.specs.Prelude.{◌≡◌, ℕ, if◌then◌else◌, ◌==◌, List, [], ◌∷◌, codes, Option, Some, None}
+use Rattle.feed.specs.declared.kind.Kind.{Kind}
+use Rattle.feed.specs.declared.kind.Kind.TheVariants.{Building, Factor, Counted, Measured, Withdrawal}
+use Rattle.feed.specs.Frames.{note_kind}
+
+abbrev pub kind_number : Kind → ℕ
+kind_number Building = 1
+kind_number Factor = 2
+kind_number Counted = 3
+kind_number Measured = 4
+kind_number Withdrawal = 5
+
+-- how many bytes a note of each kind has
+abbrev pub note_length : Kind → ℕ
+note_length Building = 18
+note_length Factor = 14
+note_length Counted = 28
+note_length Measured = 28
+note_length Withdrawal = 12
+
+-- the word for a kind
+abbrev pub kind_word : Kind → List ℕ
+kind_word Building = codes "building"
+kind_word Factor = codes "factor"
+kind_word Counted = codes "entry"
+kind_word Measured = codes "measured"
+kind_word Withdrawal = codes "withdrawal"
+
+-- all the kinds that there are
+abbrev pub kinds : List Kind
+kinds = Building ∷ Factor ∷ Counted ∷ Measured ∷ Withdrawal ∷ []
+
+abbrev pub kind_among : ℕ → List Kind → Option Kind
+kind_among n [] = None
+kind_among n (k ∷ ks) = if kind_number k == n then Some k else kind_among n ks
+
+-- the kind that has a number, if there is one
+abbrev pub kind_of : ℕ → Option Kind
+kind_of n = kind_among n kinds
+
+-- the kind of a note, if it is of one that there is
+abbrev pub kind_in : List ℕ → Option Kind
+kind_in note = kind_of (note_kind note)
+
+-- a note is of this kind
+abbrev pub IsOf : Kind → List ℕ → Type 0
+IsOf kind note = kind_in note ≡ Some kind

@@ -1,0 +1,34 @@
+-- What a feed opens with: a building, and the factor rows after it. Assumes nothing.
+use Rattle.std.specs.Prelude.{ℕ, List, Ok, Err, Result, vec_items}
+use Rattle.refusals.specs.declared.refusal.Refusal.{Refusal}
+use Rattle.domain.specs.declared.building.Building.{Building}
+use Rattle.domain.specs.declared.factor.FactorRow.{FactorRow}
+use Rattle.feed.specs.declared.opening.Opening.{Opening}
+use Rattle.feed.specs.declared.opening.OpeningError.{OpeningError}
+use Rattle.feed.specs.declared.opening.OpeningError.TheVariants.{Refused, OutOfMemory}
+use Rattle.feed.specs.Feeds.{left_of}
+use Rattle.feed.specs.Frames.{after_first}
+use Rattle.feed.specs.Readings.{ReadsBuilding}
+use Rattle.feed.specs.Rows.{RowNotes, RowsRead}
+
+-- a feed opens with the building b, which is its first note, and the notes of factor rows after it; what comes after these is left
+pub record OpensWith (feed : List ℕ) (b : Building) (notes : List (List ℕ)) (left : List ℕ) : Type 0 where
+  pub building : ReadsBuilding feed (Ok b)
+  pub rows : RowNotes (after_first feed) notes left
+
+-- what a feed opens with, and what reading each of its factor rows answers
+pub record OpenedAs (feed : List ℕ) (b : Building) (answers : List (Result FactorRow Refusal)) (left : List ℕ) : Type 0 where
+  pub notes : List (List ℕ)
+  pub opens : OpensWith feed b notes left
+  pub read : RowsRead notes answers
+
+-- an error says that memory does not suffice
+abbrev pub ForMemory : OpeningError → Type 0
+ForMemory (Refused f) = ⊥
+ForMemory (OutOfMemory e) = Unit {0}
+
+-- r is what reading it answers, where memory suffices
+abbrev pub ReadsOpening : List ℕ → Result Opening OpeningError → Type 0
+ReadsOpening feed (Ok o) = OpenedAs feed o.building (vec_items o.rows) (left_of o.rest)
+ReadsOpening feed (Err (Refused f)) = ReadsBuilding feed (Err f)
+ReadsOpening feed (Err (OutOfMemory e)) = Unit {0}

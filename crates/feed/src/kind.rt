@@ -1,0 +1,70 @@
+// The kinds of notes.
+ghost use Rattle.std.specs.Prelude.{◌≡◌, Some, IsSome};
+ghost use Rattle.feed.specs.Kinds.{kind_number, kind_of, note_length, kind_word};
+ghost use Rattle.refusals.specs.declared.refusal.Refusal.TheVariants.{UnwantedKind};
+ghost use Rattle.refusals.specs.Refusals.{Judged};
+
+use refusals::Refusal;
+use std::fmt;
+
+#[derive(Clone, Copy, Debug, PartialEq, Eq)]
+pub enum Kind {
+    Building = 1,
+    Factor = 2,
+    Counted = 3,
+    Measured = 4,
+    Withdrawal = 5,
+}
+
+impl Kind {
+    // How many bytes a note of this kind has.
+    pub fn length(self) -> usize
+        ensures { result ≡ note_length self }
+    {
+        match self {
+            Kind::Building => 18,
+            Kind::Factor => 14,
+            Kind::Counted | Kind::Measured => 28,
+            Kind::Withdrawal => 12,
+        }
+    }
+}
+
+impl TryFrom<u16> for Kind {
+    type Error = Refusal;
+
+    ghost try_from_gives = { λ n r. Judged (IsSome (kind_of n)) UnwantedKind (λ kind. kind_of n ≡ Some kind) r };
+
+    fn try_from(n: u16) -> Result<Kind, Refusal> {
+        match n {
+            1 => Ok(Kind::Building),
+            2 => Ok(Kind::Factor),
+            3 => Ok(Kind::Counted),
+            4 => Ok(Kind::Measured),
+            5 => Ok(Kind::Withdrawal),
+            _ => Err(Refusal::UnwantedKind),
+        }
+    }
+}
+
+impl From<Kind> for u16 {
+    ghost from_gives = { λ kind n. n ≡ kind_number kind };
+
+    fn from(kind: Kind) -> u16 {
+        kind as u16
+    }
+}
+
+impl fmt::Display for Kind {
+    ghost output = { λ kind. Some (kind_word kind) };
+
+    fn fmt<W: fmt::Write>(&self, f: &mut fmt::Formatter<W>) -> fmt::Result {
+        f.write_str(match self {
+            Kind::Building => "building",
+            Kind::Factor => "factor",
+            Kind::Counted => "entry",
+            Kind::Measured => "measured",
+            Kind::Withdrawal => "withdrawal",
+        })
+    }
+}

@@ -1,0 +1,33 @@
+-- What the entries of a feed are booked by: its building, and its own factors. Assumes nothing.
+use Rattle.std.specs.Prelude.{ℕ, List, [], ◌∷◌, Some, None, Ok, Err, vec_items, Option}
+use Rattle.refusals.specs.declared.refusal.Refusal.{Refusal}
+use Rattle.domain.specs.declared.building.Building.{Building}
+use Rattle.domain.specs.declared.factor.FactorRow.{FactorRow}
+use Rattle.feed.specs.Openings.{OpensWith}
+use Rattle.feed.specs.Readings.{ReadsBuilding, ReadsFactorRow}
+use Rattle.factors.specs.Layers.{project_map}
+use Rattle.factors.specs.Maps.{Map}
+use Rattle.listing.specs.declared.basis.BookingBasis.{BookingBasis}
+
+-- the factor rows that are read from notes; one that is refused is passed over
+pub data FitRows : List (List ℕ) → List FactorRow → Type 0 where
+  none : FitRows [] []
+  row : {note : List ℕ} {notes : List (List ℕ)} {r : FactorRow} {rows : List FactorRow} → ReadsFactorRow note (Ok r) → FitRows notes rows → FitRows (note ∷ notes) (r ∷ rows)
+  passed : {note : List ℕ} {notes : List (List ℕ)} {rows : List FactorRow} (f : Refusal) → ReadsFactorRow note (Err f) → FitRows notes rows → FitRows (note ∷ notes) rows
+
+-- a feed begins with a building, which is its first note, and the factor rows after it; or it has neither
+pub data Begins (feed : List ℕ) : Option Building → List FactorRow → Type 0 where
+  building : {rows : List FactorRow} {notes : List (List ℕ)} {left : List ℕ} (b : Building) → OpensWith feed b notes left → FitRows notes rows → Begins feed (Some b) rows
+  no_building : ((b : Building) → ReadsBuilding feed (Ok b) → ⊥) → Begins feed None []
+
+-- the basis on which entries are booked: the building's life in years and the factors, if there is a building
+pub data Basis : Type 0 where
+  unbooked : Basis
+  by : (y : ℕ) (known : Map) → Basis
+
+abbrev pub basis_with : Option Building → List FactorRow → Basis
+basis_with None rows = unbooked
+basis_with (Some b) rows = by b.life (project_map rows)
+
+abbrev pub basis_of : BookingBasis → Basis
+basis_of b = basis_with b.building (vec_items b.rows)
