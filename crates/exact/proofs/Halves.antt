@@ -1,42 +1,41 @@
 -- Halves that whole numbers are away from exact ones add up. Assumes nothing.
-use Rattle.std.proofs.Common.{◌≡◌, ℕ, ◌+◌, ◌*◌, ℤ, pos, negsuc, ◌+ℤ◌, ◌*ℤ◌, ◌≤ℤ◌, neg_ℤ, ap, ◌∙◌, mul_comm, arith}
+use Rattle.std.proofs.Common.{◌≡◌, ℕ, ◌+◌, ◌*◌, ℤ, pos, ◌+ℤ◌, ◌*ℤ◌, ◌≤ℤ◌, neg_ℤ, ap, ◌∙◌, mul_comm, arith}
 use Rattle.std.proofs.lemmas.Int.{ints}
 use Rattle.exact.specs.Rounding.{Fraction, over, WithinHalf}
 use Rattle.exact.specs.Adding.{plus, negated}
-use Rattle.exact.proofs.Products.{negative_natural, scale_le, apart, crossed, doubled}
+use Rattle.exact.proofs.Products.{negative, scale_le, apart, doubled, scaled}
 
 -- the whole number r is at most n halves away from x
 pub record WithinHalves (n : ℕ) (r : ℤ) (x : Fraction) : Type 0 where
   pub least : (pos 2 *ℤ (r *ℤ pos x.divisor)) ≤ℤ (pos 2 *ℤ x.numerator +ℤ pos (n * x.divisor))
   pub most : (pos 2 *ℤ x.numerator) ≤ℤ (pos 2 *ℤ (r *ℤ pos x.divisor) +ℤ pos (n * x.divisor))
 
+-- nothing is no half away from nothing, and what is within a half is one half away
 pub none_away : WithinHalves 0 (pos 0) (over (pos 0) 1)
 none_away = record { least = omega (arith, ints); most = omega (arith, ints) }
 
-pub one_away : (r : ℤ) (x : Fraction) → WithinHalf r x → WithinHalves 1 r x
-one_away r x h = record { least = omega (arith, ints, h.least); most = omega (arith, ints, h.most) }
+pub one_away : {r : ℤ} {x : Fraction} → WithinHalf r x → WithinHalves 1 r x
+one_away h = record { least = omega (arith, ints, h.least); most = omega (arith, ints, h.most) }
 
-negative : (z : ℤ) (k : ℕ) → neg_ℤ z *ℤ pos k ≡ neg_ℤ (z *ℤ pos k)
-negative (pos n) k = negative_natural n k
-negative (negsuc n) k = omega (arith, ints)
-
-pub away_negated : (n : ℕ) (r : ℤ) (x : Fraction) → WithinHalves n r x → WithinHalves n (neg_ℤ r) (negated x)
-away_negated n r x h =
+-- below zero it is as many halves away
+pub away_negated : {n : ℕ} {r : ℤ} {x : Fraction} → WithinHalves n r x → WithinHalves n (neg_ℤ r) (negated x)
+away_negated {n} {r} {x} h =
     let e = negative r x.divisor in
     record { least = omega (arith, ints, h.most); most = omega (arith, ints, h.least) }
 
-pub away_plus : (m n : ℕ) (r s : ℤ) (x y : Fraction) → WithinHalves m r x → WithinHalves n s y → WithinHalves (m + n) (r +ℤ s) (plus x y)
-away_plus m n r s x y a b =
+-- sums are as many halves away as their parts together
+pub away_plus : {m n : ℕ} {r s : ℤ} {x y : Fraction} → WithinHalves m r x → WithinHalves n s y → WithinHalves (m + n) (r +ℤ s) (plus x y)
+away_plus {m} {n} {r} {s} {x} {y} a b =
     let c = x.divisor in
     let d = y.divisor in
-    let rc : pos 2 *ℤ (r *ℤ pos c) *ℤ pos d ≡ pos 2 *ℤ (r *ℤ pos (c * d)) = doubled (r *ℤ pos c) d ∙ ap (λ z. pos 2 *ℤ z) (crossed r c d) in
-    let sd : pos 2 *ℤ (s *ℤ pos d) *ℤ pos c ≡ pos 2 *ℤ (s *ℤ pos (c * d)) = doubled (s *ℤ pos d) c ∙ ap (λ z. pos 2 *ℤ z) (crossed s d c ∙ ap (λ k. s *ℤ pos k) (mul_comm d c)) in
+    let rc = scaled r c d in
+    let sd = scaled s d c ∙ ap (λ k. pos 2 *ℤ (s *ℤ pos k)) (mul_comm d c) in
     let xd = doubled x.numerator d in
     let yc = doubled y.numerator c in
     let sum = apart r s (c * d) in
     let mc : m * c * d ≡ m * (c * d) = omega arith in
     let nd : n * d * c ≡ n * (c * d) = omega (arith, mul_comm d c) in
     record {
-      least = omega (arith, ints, scale_le _ _ d a.least, scale_le _ _ c b.least, apart (pos 2 *ℤ x.numerator) (pos (m * c)) d, apart (pos 2 *ℤ y.numerator) (pos (n * d)) c);
-      most = omega (arith, ints, scale_le _ _ d a.most, scale_le _ _ c b.most, apart (pos 2 *ℤ (r *ℤ pos c)) (pos (m * c)) d, apart (pos 2 *ℤ (s *ℤ pos d)) (pos (n * d)) c);
+      least = omega (arith, ints, scale_le d a.least, scale_le c b.least, apart (pos 2 *ℤ x.numerator) (pos (m * c)) d, apart (pos 2 *ℤ y.numerator) (pos (n * d)) c);
+      most = omega (arith, ints, scale_le d a.most, scale_le c b.most, apart (pos 2 *ℤ (r *ℤ pos c)) (pos (m * c)) d, apart (pos 2 *ℤ (s *ℤ pos d)) (pos (n * d)) c);
     }

@@ -3,65 +3,58 @@ use Rattle.std.proofs.Common.{◌≡◌, ℕ, ◌+◌, ◌*◌, ◌<◌, ◌≤�
 use lib.IntN.{+ℤ_idr}
 use lib.Signed.{shr_z, pos-nat_abs, yes_non_neg}
 use Rattle.std.proofs.lemmas.Int.{ints, by_lt_z}
-use Rattle.exact.specs.Rounding.{Fraction, over, Divides, NoLarger, Same, WithinHalf, HalfAbove, Nearest, nearest, rounded, Rounding}
-use Rattle.exact.proofs.Products.{scale_le, twice, apart, crossed, step, doubled}
+use Rattle.exact.specs.Rounding.{Fraction, over, Divides, NoLarger, Same, WithinHalf, Nearest, nearest, rounded, Rounding}
+use Rattle.exact.proofs.Products.{scale_le, twice, apart, step, doubled, scaled}
 
 -- a number rounded down
 floors : (z : ℤ) (m : ℕ) → 0 < m → ((shr_z z m *ℤ pos m) ≤ℤ z) × (z <ℤ (shr_z z m *ℤ pos m +ℤ pos m))
 floors (pos a) m h = let e = div-add-mod' a m in let l = mod-lt a h in (omega (arith, ints), omega (arith, ints))
 floors (negsuc a) m h = let e = div-add-mod' a m in let l = mod-lt a h in (omega (arith, ints), omega (arith, ints))
 
+-- what lies from half below to less than half above is nearest
+bounded : {r : ℤ} {x : Fraction} → (pos 2 *ℤ (r *ℤ pos x.divisor)) ≤ℤ (pos 2 *ℤ x.numerator +ℤ pos x.divisor) → (pos 2 *ℤ x.numerator) <ℤ (pos 2 *ℤ (r *ℤ pos x.divisor) +ℤ pos x.divisor) → Nearest r x
+bounded least strict = record { near = record { least = least; most = omega (arith, ints, strict) }; upper = λ half. omega (arith, ints, strict, half) }
+
+-- rounding gives a nearest number
 pub is_nearest : (x : Fraction) → Divides x → Nearest (nearest x) x
 unfolding nearest
 is_nearest x h =
     let f = floors (pos 2 *ℤ x.numerator +ℤ pos x.divisor) (2 * x.divisor) (omega arith) in
     let t = twice (nearest x) x.divisor in
-    record { near = record { least = omega (arith, ints); most = omega (arith, ints) }; upper = λ half. omega (arith, ints) }
+    bounded (omega (arith, ints)) (omega (arith, ints))
 
 -- the upper end is not reached
-below : (r : ℤ) (x : Fraction) → Nearest r x → (pos 2 *ℤ x.numerator) <ℤ (pos 2 *ℤ (r *ℤ pos x.divisor) +ℤ pos x.divisor)
-below r x a =
-    by_lt_z (pos 2 *ℤ x.numerator) (pos 2 *ℤ (r *ℤ pos x.divisor) +ℤ pos x.divisor) (λ l. l)
-    (λ l. let e : HalfAbove r x = omega (arith, ints, a.near.most) in absurd (a.upper e))
+pub below : {r : ℤ} {x : Fraction} → Nearest r x → (pos 2 *ℤ x.numerator) <ℤ (pos 2 *ℤ (r *ℤ pos x.divisor) +ℤ pos x.divisor)
+below a = omega (arith, ints, a.near.most, a.upper)
 
-pub nearest_only : (x : Fraction) (r s : ℤ) → Divides x → Nearest r x → Nearest s x → r ≡ s
-nearest_only x r s h a b =
-    let p = below r x a in
-    let q = below s x b in
-    by_lt_z r s (λ l. let e = step r s x.divisor l in absurd (omega (arith, ints, b.near.least)))
-    (λ l. by_lt_z s r (λ m. let e = step s r x.divisor m in absurd (omega (arith, ints, a.near.least))) (λ m. omega (arith, ints)))
+-- of two nearest numbers neither is above the other
+no_larger : {r s : ℤ} {x : Fraction} → Nearest r x → Nearest s x → s ≤ℤ r
+no_larger {r} {s} {x} a b = by_lt_z r s (λ l. let e = step x.divisor l in let p = below a in absurd (omega (arith, ints, b.near.least))) (λ l. l)
+
+-- what is nearest is the number that rounding gives
+only : {r : ℤ} {x : Fraction} → Divides x → Nearest r x → r ≡ nearest x
+only {x} h a = omega (arith, ints, no_larger a (is_nearest x h), no_larger (is_nearest x h) a)
 
 -- a fraction written with larger numbers has the same nearest number
-nearest_scaled : (x : Fraction) (r : ℤ) (k : ℕ) → 0 < k → Nearest r x → Nearest r (over (x.numerator *ℤ pos k) (x.divisor * k))
-nearest_scaled x r k h a =
+nearest_scaled : {r : ℤ} {x : Fraction} (k : ℕ) → 0 < k → Nearest r x → Nearest r (over (x.numerator *ℤ pos k) (x.divisor * k))
+nearest_scaled {r} {x} k h a =
     let n2 = pos 2 *ℤ x.numerator in
     let d = x.divisor in
     let rd = pos 2 *ℤ (r *ℤ pos d) in
-    let left : rd *ℤ pos k ≡ pos 2 *ℤ (r *ℤ pos (d * k)) = doubled (r *ℤ pos d) k ∙ ap (λ z. pos 2 *ℤ z) (crossed r d k) in
+    let left = scaled r d k in
     let right = doubled x.numerator k in
-    let strict = below r x a in
-    let more : (n2 +ℤ pos 1) ≤ℤ (rd +ℤ pos d) = omega (arith, ints) in
-    let most = scale_le (n2 +ℤ pos 1) (rd +ℤ pos d) k more in
-    record {
-      near = record {
-        least = omega (arith, ints, scale_le rd (n2 +ℤ pos d) k a.near.least, apart n2 (pos d) k, left, right);
-        most = omega (arith, ints, most, apart n2 (pos 1) k, apart rd (pos d) k, left, right);
-      };
-      upper = λ half. omega (arith, ints, half, most, apart n2 (pos 1) k, apart rd (pos d) k, left, right);
-    }
+    let more : (n2 +ℤ pos 1) ≤ℤ (rd +ℤ pos d) = omega (arith, ints, below a) in
+    bounded (omega (arith, ints, scale_le k a.near.least, apart n2 (pos d) k, left, right)) (omega (arith, ints, scale_le k more, apart n2 (pos 1) k, apart rd (pos d) k, left, right))
 
+-- a larger fraction has no smaller nearest number
 pub nearest_mono : (x y : Fraction) → Divides x → Divides y → NoLarger x y → nearest x ≤ℤ nearest y
 nearest_mono x y hx hy le =
     let c = x.divisor in
     let d = y.divisor in
-    by_lt_z (nearest y) (nearest x)
-    (λ l.
-    let a = (nearest_scaled x (nearest x) d hy (is_nearest x hx)).near.least in
-    let b = below (nearest y) _ (nearest_scaled y (nearest y) c hx (is_nearest y hy)) in
-    let e = step (nearest y) (nearest x) (c * d) l in
+    let a = (nearest_scaled d hy (is_nearest x hx)).near.least in
+    let b = below (nearest_scaled c hx (is_nearest y hy)) in
     let f : nearest y *ℤ pos (d * c) ≡ nearest y *ℤ pos (c * d) = ap (λ z. nearest y *ℤ pos z) (mul_comm d c) in
-    absurd (omega (arith, ints, mul_comm d c)))
-    (λ l. l)
+    by_lt_z (nearest y) (nearest x) (λ l. let e = step (c * d) l in absurd (omega (arith, ints, mul_comm d c))) (λ l. l)
 
 -- equal fractions have the same nearest number
 pub nearest_same : (x y : Fraction) → Divides x → Divides y → Same x y → nearest x ≡ nearest y
@@ -72,23 +65,20 @@ nearest_same x y hx hy e =
 
 -- a whole number and a part below a half, and one and a part from a half on
 pub nearest_down : (w : ℤ) (rest d : ℕ) → rest + rest < d → w ≡ nearest (over (w *ℤ pos d +ℤ pos rest) d)
-nearest_down w rest d l =
-    let x = over (w *ℤ pos d +ℤ pos rest) d in
-    let h : 0 < d = omega arith in
-    nearest_only x w (nearest x) h (record { near = record { least = omega (arith, ints); most = omega (arith, ints) }; upper = λ half. omega (arith, ints, half) }) (is_nearest x h)
+nearest_down w rest d l = only (omega arith) (bounded (omega (arith, ints)) (omega (arith, ints)))
 
 pub nearest_up : (w : ℤ) (rest d : ℕ) → rest < d → d ≤ rest + rest → w +ℤ pos 1 ≡ nearest (over (w *ℤ pos d +ℤ pos rest) d)
 nearest_up w rest d b l =
-    let x = over (w *ℤ pos d +ℤ pos rest) d in
-    let h : 0 < d = omega arith in
     let e = apart w (pos 1) d in
-    nearest_only x (w +ℤ pos 1) (nearest x) h (record { near = record { least = omega (arith, ints); most = omega (arith, ints) }; upper = λ half. omega (arith, ints, half) }) (is_nearest x h)
+    only (omega arith) (bounded (omega (arith, ints)) (omega (arith, ints)))
 
+-- a whole number is nearest to itself
 pub stays : (r : ℤ) (d : ℕ) → 0 < d → nearest (over (r *ℤ pos d) d) ≡ r
 stays r d h = ap (λ n. nearest (over n d)) (sym (+ℤ_idr (r *ℤ pos d))) ∙ sym (nearest_down r 0 d h)
 
+-- all of this together
 pub rounding : Rounding nearest
-rounding = record { is_nearest = is_nearest; only = λ x r h a. nearest_only x r (nearest x) h a (is_nearest x h); stays = stays; monotone = nearest_mono }
+rounding = record { is_nearest = is_nearest; only = λ x r h a. only h a; stays = stays; monotone = nearest_mono }
 
 -- a natural number's fraction: what is nearest to it is no less than 0, and 0 below a half
 pub nearest_natural : (n d : ℕ) → 0 < d → pos 0 ≤ℤ nearest (over (pos n) d)
@@ -98,9 +88,11 @@ nearest_natural n d h =
 pub nearest_small : (n d : ℕ) → n + n < d → pos 0 ≡ nearest (over (pos n) d)
 nearest_small n d l = nearest_down (pos 0) n d l ∙ ap (λ m. nearest (over m d)) (omega (arith, ints))
 
-pub pos_rounded : (n d : ℕ) → 0 < d → pos (rounded n d) ≡ nearest (over (pos n) d)
+-- as a natural number it is the same
+pos_rounded : (n d : ℕ) → 0 < d → pos (rounded n d) ≡ nearest (over (pos n) d)
 pos_rounded n d h = pos-nat_abs (nearest (over (pos n) d)) (yes_non_neg (nearest_natural n d h))
 
+-- and it is at most a half away
 pub rounded_near : (n d : ℕ) → 0 < d → WithinHalf (pos (rounded n d)) (over (pos n) d)
 rounded_near n d h = subst (λ r. WithinHalf r (over (pos n) d)) (sym (pos_rounded n d h)) (is_nearest (over (pos n) d) h).near
 

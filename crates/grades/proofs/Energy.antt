@@ -1,41 +1,43 @@
--- What the rows of the energy of use come to. Assumes nothing.
-use Rattle.std.proofs.Common.{◌≡◌, ℕ, ◌+◌, ◌≤◌, Bool, true, false, zero, suc, Some, List, [], ◌∷◌, drop, ℤ, pos, ◌+ℤ◌, refl, ap, ◌∙◌, arith}
-use Rattle.std.specs.List.{slice_get}
-use Rattle.std.proofs.lemmas.Option.{none-some, same_Some}
-use Rattle.totals.specs.Sums.{sum_in, grams_in, numbered}
+-- What the rows of the energy of use come to together. Assumes nothing.
+use Rattle.std.proofs.Common.{◌≡◌, ◌≢◌, ℕ, ◌-◌, Bool, ◌||◌, length, get_or, pos, ◌+ℤ◌, arith}
+use Rattle.std.specs.Prelude.{⊤, ◌==◌}
+use Rattle.std.proofs.lemmas.Bool.Decides.{nat_tests}
+use Rattle.std.proofs.lemmas.Int.{ints}
+use Rattle.booking.specs.declared.row.Row.{Row}
+use Rattle.booking.specs.Rows.{RowRange, row_number}
+use Rattle.totals.specs.Sizes.{WithinTotals}
+use Rattle.totals.specs.Sums.{numbered, sums_of}
+use Rattle.totals.specs.declared.totals.Totals.{Totals}
+use Rattle.totals.proofs.Adding.{whole, held}
+use Rattle.totals.proofs.Choosing.{Parts, split, one_alone, grams_within}
 use Rattle.grades.specs.Grades.{energy}
 
-module _ (choice : ℕ → Bool) where
-  -- the first i of a list belong to rows before k: a row that is not chosen adds nothing, and one that is adds what stands there
-  pub passes : (xs : List ℤ) (i k : ℕ) → choice k ≡ false → grams_in choice (numbered k (drop i xs)) ≡ grams_in choice (numbered (k + 1) (drop (suc i) xs))
-  unfolding sum_in numbered
-  passes [] zero k h = refl
-  passes [] (suc i) k h = refl
-  passes (x ∷ xs) zero k h = rw h refl
-  passes (x ∷ xs) (suc i) k h = passes xs i k h
+-- the rows of what is burnt, and of what is bought
+abbrev burnt : ℕ → Bool
+burnt row = row == 11 || row == 14
 
-  pub takes : (xs : List ℤ) (i k : ℕ) (x : ℤ) → choice k ≡ true → slice_get xs i ≡ Some x → grams_in choice (numbered k (drop i xs)) ≡ x +ℤ grams_in choice (numbered (k + 1) (drop (suc i) xs))
-  unfolding sum_in numbered
-  takes [] i k x h is = absurd (none-some x is)
-  takes (y ∷ xs) zero k x h is = rw (h, same_Some y x is) refl
-  takes (y ∷ xs) (suc i) k x h is = takes xs i k x h is
+abbrev bought : ℕ → Bool
+bought row = row == 12 || row == 15
 
--- no row after the nineteenth belongs to it
-later : (k : ℕ) → 20 ≤ k → energy k ≡ false
-later k h = grind arith
+module _ (t : Totals) where
+  -- what rows come to that either of two choices chooses, none of them both; and it is light
+  together : {a b c : ℕ → Bool} → ((row : ℕ) → Parts (a row) (b row) (c row)) → ((sums_of t).grams c ≡ (sums_of t).grams a +ℤ (sums_of t).grams b) × WithinTotals ((sums_of t).grams c)
+  together {c} parts = (split whole {In = λ _. ⊤} (numbered 1 t.grams) (λ _ _ _. tt) (λ row _. parts row), grams_within t c)
 
-ends : (xs : List ℤ) (k : ℕ) → 20 ≤ k → grams_in energy (numbered k xs) ≡ pos 0
-unfolding sum_in numbered
-ends [] k h = refl
-ends (x ∷ xs) k h = rw (later k h) (ends xs (k + 1) (omega arith))
+  -- two rows, and all rows of the energy of use
+  pub two_rows : {m n : ℕ} → m ≢ n → ((sums_of t).grams (λ row. row == m || row == n) ≡ (sums_of t).grams (λ row. row == m) +ℤ (sums_of t).grams (λ row. row == n)) × WithinTotals ((sums_of t).grams (λ row. row == m || row == n))
+  two_rows {m} {n} apart = together (λ row. record { one = grind (arith, nat_tests) })
 
-pub energy_is : (xs : List ℤ) (a b c d e : ℤ) → slice_get xs 10 ≡ Some a → slice_get xs 11 ≡ Some b → slice_get xs 13 ≡ Some c → slice_get xs 14 ≡ Some d → slice_get xs 18 ≡ Some e → grams_in energy (numbered 1 xs) ≡ a +ℤ (b +ℤ (c +ℤ (d +ℤ (e +ℤ pos 0))))
-energy_is xs a b c d e ha hb hc hd he =
-    let pass = passes energy xs in
-    let take = takes energy xs in
-    let last = ap (λ z. e +ℤ z) (ends (drop 19 xs) 20 (omega arith)) in
-    let renewables = pass 15 16 refl ∙ pass 16 17 refl ∙ pass 17 18 refl ∙ take 18 19 e refl he ∙ last in
-    let users = take 13 14 c refl hc ∙ ap (λ z. c +ℤ z) (take 14 15 d refl hd ∙ ap (λ z. d +ℤ z) renewables) in
-    let bought = take 11 12 b refl hb ∙ ap (λ z. b +ℤ z) (pass 12 13 refl ∙ users) in
-    let burnt = take 10 11 a refl ha ∙ ap (λ z. a +ℤ z) bought in
-    pass 0 1 refl ∙ pass 1 2 refl ∙ pass 2 3 refl ∙ pass 3 4 refl ∙ pass 4 5 refl ∙ pass 5 6 refl ∙ pass 6 7 refl ∙ pass 7 8 refl ∙ pass 8 9 refl ∙ pass 9 10 refl ∙ burnt
+  pub energy_rows : ((sums_of t).grams energy ≡ (sums_of t).grams burnt +ℤ (sums_of t).grams bought +ℤ (sums_of t).grams (λ row. row == 19)) × WithinTotals ((sums_of t).grams energy)
+  energy_rows =
+      let used = together {a = burnt} {b = bought} {c = λ row. burnt row || bought row} (λ row. record { one = grind (arith, nat_tests) }) in
+      let all = together {a = λ row. burnt row || bought row} {b = λ row. row == 19} {c = energy} (λ row. record { one = grind (arith, nat_tests) }) in
+      (omega (arith, ints, used, all), all.1)
+
+  -- what the machine reads at a row's place
+  pub one_row : {at : ℕ} (row : Row) → length t.grams ≡ 22 → at ≡ row_number row - 1 → (held (get_or t.grams at (pos 0)) ≡ (sums_of t).grams (λ r. r == row_number row)) × WithinTotals (held (get_or t.grams at (pos 0)))
+  one_row row places is =
+      let range : RowRange (row_number row) = grind arith in
+      let alone = one_alone whole (row_number row) 1 t.grams (row_number row - 1) (pos 0) (omega arith) (omega arith) in
+      let small = grams_within t (λ r. r == row_number row) in
+      rw is (omega (arith, ints), omega (arith, ints))

@@ -1,5 +1,2 @@
-mod Added
 pub mod Awarding
 mod Energy
-mod First
-mod Ratio

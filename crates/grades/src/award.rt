@@ -14,7 +14,7 @@ use domain::Building;
 use totals::Totals;
 
 // The highest grade whose demands the building meets with these totals.
-#[tactic(auto, using(crate::proofs::Awarding::awarding))]
+#[tactic(auto, using(crate::proofs::Awarding::one_grade))]
 pub fn grade(building: &Building, totals: Totals) -> Grade
     ensures awarded { Awarded (numbers_of building.now) (weight (sums_of totals)) (grade_number result) }
     ensures only { (n : ℕ) → Awarded (numbers_of building.now) (weight (sums_of totals)) n → n ≡ grade_number result }

@@ -1,5 +1,5 @@
 // What a grade demands: a limit, or a ratio to the building's reference.
-ghost use Rattle.std.specs.Prelude.{◌≡◌, ◌≤◌, ◌↔◌, IsTrue, pos, unsigned_abs};
+ghost use Rattle.std.specs.Prelude.{◌≡◌, ◌≢◌, ◌-◌, ◌*◌, ◌≤◌, ◌↔◌, IsTrue, pos, ◌*ℤ◌, ◌≤ℤ◌};
 ghost use Rattle.domain.specs.Buildings.{numbers_of};
 ghost use Rattle.grades.specs.Grades.{grams_over_life, LimitHolds, RatioHolds, Meets};
 ghost use Rattle.totals.specs.Sizes.{WithinTotals};
@@ -29,7 +29,7 @@ fn limit_holds(limit: Option<u16>, building: &Building, weight: i64) -> bool
     ensures { IsTrue result ↔ LimitHolds limit (numbers_of building.now) weight }
 {
     match limit {
-        Some(limit) => weight <= grams_over_life(building, limit),
+        Some(limit) => weight <= grams_over_life(building, limit) as i64,
         None => false,
     }
 }
@@ -40,19 +40,33 @@ fn ratio_holds(ratio: u16, building: &Building, weight: i64) -> bool
     requires within { WithinTotals weight }
     ensures { IsTrue result ↔ RatioHolds ratio (numbers_of building.now) weight }
 {
-    if building.building_type == BuildingType::Residential || building.reference == NO_REFERENCE {
-        return false;
-    }
-    let left = WHOLE - ratio;
-    i64::from(WHOLE) * weight <= i64::from(left) * grams_over_life(building, building.reference)
+    has_reference(building) && is_below(ratio, building, weight)
+}
+
+// Whether there is a reference that the building is compared with.
+fn has_reference(building: &Building) -> bool
+    ensures { IsTrue result ↔ ((numbers_of building.now).building_type ≢ 1) × (building.now.reference ≢ 0) }
+{
+    building.building_type != BuildingType::Residential && building.reference != NO_REFERENCE
+}
+
+// Whether the weight lies so many per cent below the reference, or more.
+fn is_below(ratio: u16, building: &Building, weight: i64) -> bool
+    requires share { ratio ≤ 100 }
+    requires within { WithinTotals weight }
+    ensures { IsTrue result ↔
+        ((pos 100 *ℤ weight) ≤ℤ
+        pos ((100 - ratio) * grams_over_life (numbers_of building.now) building.now.reference)) }
+{
+    let left = u64::from(WHOLE - ratio) * grams_over_life(building, building.reference);
+    i64::from(WHOLE) * weight <= left as i64
 }
 
 // An intensity over the building's area and its years, in grams.
-fn grams_over_life(building: &Building, intensity: u16) -> i64
-    ensures value { result ≡ pos (grams_over_life (numbers_of building.now) intensity) }
-    ensures within { unsigned_abs result ≤ 10000000000000000 }
+fn grams_over_life(building: &Building, intensity: u16) -> u64
+    ensures value { result ≡ grams_over_life (numbers_of building.now) intensity }
+    ensures within { result ≤ 10000000000000000 }
 {
     let yearly = GRAMS * u64::from(intensity) * u64::from(building.area);
-    let all = yearly * u64::from(building.life);
-    all as i64
+    yearly * u64::from(building.life)
 }

@@ -111,12 +111,14 @@ const NEAR_ZERO_LIMITS: [LimitRow; 13] = [
     },
 ];
 
+#[tactic(auto, unfolding(crate::specs::Limits::low_carbon_limits))]
 pub(crate) fn low_carbon_limit(building: &Building) -> Option<u16>
     ensures { result ≡ limit low_carbon_limits (numbers_of building.now) }
 {
     limit(&LOW_CARBON_LIMITS, building)
 }
 
+#[tactic(auto, unfolding(crate::specs::Limits::near_zero_limits))]
 pub(crate) fn near_zero_limit(building: &Building) -> Option<u16>
     ensures { result ≡ limit near_zero_limits (numbers_of building.now) }
 {
@@ -124,6 +126,7 @@ pub(crate) fn near_zero_limit(building: &Building) -> Option<u16>
 }
 
 // The limit in the first row that is for the building.
+#[tactic(auto, unfolding(crate::specs::Limits::limit))]
 fn limit(table: &[LimitRow], building: &Building) -> Option<u16>
     ensures { result ≡ limit (map row_numbers table.now) (numbers_of building.now) }
 {

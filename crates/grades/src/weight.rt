@@ -1,5 +1,5 @@
 // What the energy of a building's use weighs.
-ghost use Rattle.std.specs.Prelude.{◌≡◌, ◌-◌, slice_get, Some};
+ghost use Rattle.std.specs.Prelude.{◌≡◌, ◌≢◌, ◌||◌, ◌==◌};
 ghost use Rattle.booking.specs.Rows.{row_number};
 ghost use Rattle.totals.specs.Sums.{sums_of};
 ghost use Rattle.grades.specs.Grades.{weight};
@@ -13,14 +13,26 @@ pub(crate) fn weight(totals: Totals) -> i64
     ensures value { result ≡ weight (sums_of totals) }
     ensures within { WithinTotals result }
 {
-    let burnt = grams(totals, Row::EquipmentEnergyBurnt) + grams(totals, Row::UserEnergyBurnt);
-    let bought = grams(totals, Row::EquipmentEnergyBought) + grams(totals, Row::UserEnergyBought);
-    burnt + bought + grams(totals, Row::Renewables)
+    let burnt = both(totals, Row::EquipmentEnergyBurnt, Row::UserEnergyBurnt);
+    let bought = both(totals, Row::EquipmentEnergyBought, Row::UserEnergyBought);
+    let renewables = grams(totals, Row::Renewables);
+    burnt + bought + renewables
+}
+
+// What stands in two rows together.
+fn both(totals: Totals, equipment: Row, users: Row) -> i64
+    requires { row_number equipment ≢ row_number users }
+    ensures value { result ≡ (sums_of totals).grams (λ row. row == row_number equipment || row == row_number users) }
+    ensures within { WithinTotals result }
+{
+    let by_equipment = grams(totals, equipment);
+    let by_users = grams(totals, users);
+    by_equipment + by_users
 }
 
 // What stands in one row.
 fn grams(totals: Totals, row: Row) -> i64
-    ensures value { slice_get totals.grams (row_number row - 1) ≡ Some result }
+    ensures value { result ≡ (sums_of totals).grams (λ r. r == row_number row) }
     ensures within { WithinTotals result }
 {
     totals.grams[row.index()]

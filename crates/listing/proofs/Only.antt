@@ -74,30 +74,30 @@ said_only a bs s t (Err f) (Err g) reads reads' same said said' =
     let none = names_none bs f reads ∙ sym (names_none bs g reads') in
     refused_only bs f g s t (same_words f g same none) said said'
 
-tells_only : (a : Basis) (bs s t : List ℕ) → Tells a bs s → Tells a bs t → s ≡ t
-tells_only a bs s t x y =
+tells_only : {a : Basis} {bs s t : List ℕ} → Tells a bs s → Tells a bs t → s ≡ t
+tells_only {a} {bs} {s} {t} x y =
     let same = decided_only (readable AnyKind bs) (Says (first_note bs)) (Says (first_note bs)) (λ m n. Unit {0}) (λ m n p q. tt) x.answer y.answer x.read y.read in
     said_only a bs s t x.answer y.answer x.read y.read same x.tells y.tells
 
-pub line_only : (a : Basis) (k at : ℕ) (bs l m : List ℕ) → Line a k at bs l → Line a k at bs m → l ≡ m
-line_only a k at bs l m x y =
-    x.text ∙ ap (λ s. decimal k ++ (named (codes "at", at) ++ (codes " " ++ (s ++ codes "\n")))) (tells_only a bs _ _ x.tells y.tells) ∙ sym y.text
+pub line_only : {a : Basis} {k at : ℕ} {bs l m : List ℕ} → Line a k at bs l → Line a k at bs m → l ≡ m
+line_only {a} {k} {at} x y =
+    x.text ∙ ap (λ s. decimal k ++ (named (codes "at", at) ++ (codes " " ++ (s ++ codes "\n")))) (tells_only x.tells y.tells) ∙ sym y.text
 
 last_only : (a : Basis) (k at : ℕ) (bs l m : List ℕ) → LastLine a k at bs l → LastLine a k at bs m → l ≡ m
 last_only a k at [] l m p q = p.none refl ∙ sym (q.none refl)
-last_only a k at (x ∷ bs) l m p q = line_only a k at (x ∷ bs) l m (p.some (omega arith)) (q.some (omega arith))
+last_only a k at (x ∷ bs) l m p q = line_only (p.some (omega arith)) (q.some (omega arith))
 
 lists_only : (a : Basis) (k at : ℕ) (bs s t : List ℕ) → Lists a k at bs s → Lists a k at bs t → s ≡ t
 lists_only a k at bs s t (note n rest l more one cut line rests text) (note n' rest' l' more' one' cut' line' rests' text') =
     let same = front_only n rest n' rest' one one' (sym cut ∙ cut') in
     let line'' = subst (λ b. Line a k at b l') (sym same.0) line' in
     let rests'' : Lists a (k + 1) (at + length n) rest more' = rw (same.0, same.1) rests' in
-    text ∙ (λ i. line_only a k at n l l' line line'' i ++ lists_only a (k + 1) (at + length n) rest more more' rests rests'' i) ∙ sym text'
+    text ∙ (λ i. line_only line line'' i ++ lists_only a (k + 1) (at + length n) rest more more' rests rests'' i) ∙ sym text'
 lists_only a k at bs s t (note n rest l more one cut line rests text) (last unframed left) = absurd (unframed (subst Framed (sym cut) (framed_front n rest one)))
 lists_only a k at bs s t (last unframed left) (note n rest l more one cut line rests text) = absurd (unframed (subst Framed (sym cut) (framed_front n rest one)))
 lists_only a k at bs s t (last unframed left) (last unframed' left') = last_only a k at bs s t left left'
 
-pub listing_only : (feed s t : List ℕ) → Listing feed s → Listing feed t → s ≡ t
-listing_only feed s t p q =
+pub listing_only : {feed s t : List ℕ} → Listing feed s → Listing feed t → s ≡ t
+listing_only {feed} {s} {t} p q =
     let same = basis_only feed p.building q.building p.rows q.rows p.begins q.begins in
     lists_only (basis_with p.building p.rows) 1 0 feed s t p.lists (subst (λ a. Lists a 1 0 feed t) (sym same) q.lists)

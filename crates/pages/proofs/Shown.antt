@@ -13,6 +13,6 @@ unfolding page_figures
 figures_each cut sums = length-map-range_with_len (heading_figure cut sums) 1 cut.size
 
 -- the first places, as many as the cut has headings, hold the figures of the page
-pub shown : (cut : Assignment) (sums : Sums) (before : List Figure) (total : Figure) (after : List Figure) → Writes cut sums before (Ok total) after → take cut.size after ≡ page_figures cut sums
-shown cut sums before total after w =
+pub shown : {cut : Assignment} {sums : Sums} {before after : List Figure} {total : Figure} → Writes cut sums before (Ok total) after → take cut.size after ≡ page_figures cut sums
+shown {cut} {sums} {before} w =
     ap (take cut.size) w.places ∙ subst (λ n. take n (page_figures cut sums ++ drop cut.size before) ≡ page_figures cut sums) (figures_each cut sums) (take-append_seam (page_figures cut sums) (drop cut.size before))

@@ -14,9 +14,9 @@ use Rattle.report.specs.Calls.{said, PageWritten}
 use Rattle.report.specs.Lines.{page_lines, grade_line}
 use Rattle.report.specs.Projects.{ProjectParts}
 
--- all is sent, then comes a page, and then the grade
-pub written : (c : ProjectParts) (rows : List FactorRow) (s : State) (refused lines last text : List ℕ) (n : ℕ) → rows ≡ c.rows → AllSent c.building (project_map rows) c.notes s refused → PageWritten s lines → Grades s n → last ≡ grade_line n → text ≡ (refused ++ lines) ++ last → Accounts c text
-written c rows s refused lines last text n same sent page_of grade_of is text_is =
+-- all is sent, then comes a page, and then the grade, each written after the other
+pub written : (c : ProjectParts) (rows : List FactorRow) {s : State} {refused lines page_text joined last text : List ℕ} {n : ℕ} → rows ≡ c.rows → AllSent c.building (project_map rows) c.notes s refused → PageWritten s lines → Grades s n → joined ≡ refused ++ page_text → page_text ≡ lines → text ≡ joined ++ last → last ≡ grade_line n → Accounts c text
+written c rows {s} {refused} {n = n} same sent page_of grade_of page_put page_is grade_put grade_is =
     let all = subst (λ (xs : List FactorRow). AllSent c.building (project_map xs) c.notes s refused) same sent in
     record {
       sends = all.sends;
@@ -26,7 +26,7 @@ written c rows s refused lines last text n same sent page_of grade_of is text_is
       total = page_of.total;
       grade = n;
       calls = record { answered = all.answered; last = s; sent = all.answers; run = grade (page all.run page_of.pages) grade_of };
-      written = text_is ∙ (λ i. (all.written i ++ page_of.written i) ++ is i);
+      written = grade_put ∙ (λ i. (page_put ∙ (λ j. all.written j ++ (page_is ∙ page_of.written) j)) i ++ grade_is i);
     }
 
 -- the law over histories holds of the page and the grade of an account

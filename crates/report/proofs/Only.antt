@@ -1,5 +1,8 @@
 -- A feed has one report. Assumes nothing.
-use Rattle.std.proofs.Common.{◌≡◌, ℕ, ◌+◌, List, [], ◌∷◌, ◌++◌, length, get_or, drop, map, reverse, take, codes, decimal, Ok, Err, Result, sym, refl, ap, ◌∙◌, subst, arith}
+use Rattle.std.proofs.Common.{◌≡◌, ℕ, ◌+◌, List, [], ◌∷◌, ◌++◌, length, get_or, drop, map, reverse, take, codes, decimal, Ok, Err, Result, IfOk, String, string_bytes, sym, refl, ap, ◌∙◌, subst, arith}
+use Rattle.std.proofs.lemmas.Result.{IfOk-weaker}
+use Rattle.std.specs.declared.alloc.AllocError.{AllocError}
+use Rattle.std.specs.declared.alloc.Global.{Global}
 use Rattle.refusals.specs.declared.refusal.Refusal.{Refusal}
 use Rattle.refusals.specs.Refusals.{refusal_number}
 use Rattle.refusals.proofs.Deciding.{Same, decided_only, least_only, unbroken, told_only, above_zero}
@@ -18,8 +21,6 @@ use Rattle.sheet.specs.States.{State, send_asked, Sends}
 use Rattle.sheet.specs.Accounts.{sendings}
 use Rattle.sheet.proofs.Accounting.{bytes_are}
 use Rattle.sheet.specs.Histories.{Run, paged, graded, new, send, page, grade, sends, Pages, Grades}
-use Rattle.sheet.specs.Lines.{lines, sums_of_lines}
-use Rattle.grades.specs.Grades.{weight}
 use Rattle.grades.proofs.Awarding.{one_grade}
 use Rattle.factors.specs.Layers.{project_map}
 use Rattle.pages.specs.declared.figure.Figure.{Figure}
@@ -129,9 +130,9 @@ module _ (b : BuildingNumbers) (known : Map) where
       let sent = sent_once a a' s s' same run run' in
       let pages'' : Pages s by_stage places' (Ok total') after' = subst (λ q. Pages q by_stage places' (Ok total') after') (sym sent.0) pages' in
       let grades'' : Grades s n' = subst (λ q. Grades q n') (sym sent.0) grades' in
-      let figures : take by_stage.size after ≡ take by_stage.size after' = shown by_stage (sums_of_lines (lines s.held)) places total after pages.writes ∙ sym (shown by_stage (sums_of_lines (lines s.held)) places' total' after' pages''.writes) in
+      let figures : take by_stage.size after ≡ take by_stage.size after' = shown pages.writes ∙ sym (shown pages''.writes) in
       let totals : total ≡ total' = pages.writes.answer.1 ∙ sym pages''.writes.answer.1 in
-      let grade_is : n ≡ n' = one_grade s.building (weight (sums_of_lines (lines s.held))) n n' grades grades'' in
+      let grade_is : n ≡ n' = one_grade grades grades'' in
       (λ i. (sent.1 i ++ page_lines (figures i) (totals i)) ++ grade_line (grade_is i))
 
 account_only : (c : ProjectParts) (text other : List ℕ) → Accounts c text → Accounts c other → text ≡ other
@@ -140,16 +141,24 @@ account_only c text other a a' =
     let bytes : map (λ x. x.0) a.calls.answered ≡ map (λ x. x.0) a'.calls.answered = a.calls.sent ∙ ap reverse sends ∙ sym a'.calls.sent in
     a.written ∙ ends_once c.building (project_map c.rows) a.calls.answered a'.calls.answered a.calls.last a'.calls.last a.places a'.places a.after a'.after a.total a'.total a.grade a'.grade bytes a.calls.run a'.calls.run ∙ sym a'.written
 
-pub report_only : (feed text other : List ℕ) → Reports feed text → Reports feed other → text ≡ other
-report_only feed text other (denied {f = f} opens is) (denied {f = g} opens' is') =
+pub report_only : {feed text other : List ℕ} → Reports feed text → Reports feed other → text ≡ other
+report_only {feed} (denied {f = f} opens is) (denied {f = g} opens' is') =
     is ∙ denied_same 0 f g (opens_only feed (Err f) (Err g) opens opens') ∙ sym is'
-report_only feed text other (denied {f = f} opens is) (account {c = c} opens' a) = absurd (opens_only feed (Err f) (Ok c) opens opens')
-report_only feed text other (account {c = c} opens a) (denied {f = f} opens' is) = absurd (opens_only feed (Ok c) (Err f) opens opens')
-report_only feed text other (account {c = c} opens a) (account {c = d} opens' a') =
+report_only {feed} (denied {f = f} opens is) (account {c = c} opens' a) = absurd (opens_only feed (Err f) (Ok c) opens opens')
+report_only {feed} (account {c = c} opens a) (denied {f = f} opens' is) = absurd (opens_only feed (Ok c) (Err f) opens opens')
+report_only {feed} {text} {other} (account {c = c} opens a) (account {c = d} opens' a') =
     account_only c text other a (subst (λ x. Accounts x other) (sym (opens_only feed (Ok c) (Ok d) opens opens')) a')
 
 -- the law over histories holds of a report
-pub report_lawful : (feed text : List ℕ) → Reports feed text → LawfulReport feed text
-report_lawful feed text (denied {f = f} opens is) c opens' = absurd (opens_only feed (Err f) (Ok c) opens opens')
-report_lawful feed text (account {c = d} opens a) c opens' =
+pub report_lawful : {feed text : List ℕ} → Reports feed text → LawfulReport feed text
+report_lawful {feed} (denied {f = f} opens is) c opens' = absurd (opens_only feed (Err f) (Ok c) opens opens')
+report_lawful {feed} {text} (account {c = d} opens a) c opens' =
     subst (λ x. Concludes x text) (opens_only feed (Ok d) (Ok c) opens opens') (concludes d text a)
+
+-- what a call promises of the report that it makes
+module _ (feed : List ℕ) (r : Result (String Global) AllocError) (value : IfOk r (λ s. Reports feed (string_bytes s))) where
+  pub only_report : IfOk r (λ s. (other : List ℕ) → Reports feed other → other ≡ string_bytes s)
+  only_report = IfOk-weaker r (λ s. Reports feed (string_bytes s)) (λ s. (other : List ℕ) → Reports feed other → other ≡ string_bytes s) (λ s reports other more. report_only more reports) value
+
+  pub lawful_report : IfOk r (λ s. LawfulReport feed (string_bytes s))
+  lawful_report = IfOk-weaker r (λ s. Reports feed (string_bytes s)) (λ s. LawfulReport feed (string_bytes s)) (λ s reports. report_lawful reports) value

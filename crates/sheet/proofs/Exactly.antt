@@ -24,15 +24,15 @@ module _ (y : ℕ) (known : Map) where
 
   -- an entry's grams as they count are at most a half from what it is exactly
   away_signed : (t : Bool) (g : ℕ) (x : Fraction) → WithinHalves 1 (pos g) x → WithinHalves 1 (signed_grams t g) (if t then negated x else x)
-  away_signed true g x h = away_negated 1 (pos g) x h
+  away_signed true g x h = away_negated h
   away_signed false g x h = h
 
   one_weight : (e : Entry) → Fit e → WithinHalves 1 (row_grams (booked y known e)).1 (exact_weight y known e).1
-  one_weight e k = away_signed (subtracted e.head.row) (booked y known e).grams (exact_grams y known e) (one_away _ _ (grams_near y known e k))
+  one_weight e k = away_signed (subtracted e.head.row) (booked y known e).grams (exact_grams y known e) (one_away (grams_near y known e k))
 
   -- the sums of one entry more, if it counts
   one_more : (t : Bool) (e : Entry) → Fit e → (n : ℕ) (g : ℤ) (x : Fraction) → WithinHalves n g x → WithinHalves (if t then 1 + n else n) (if t then (row_grams (booked y known e)).1 +ℤ g else g) (if t then plus (exact_weight y known e).1 x else x)
-  one_more true e k n g x h = away_plus 1 n _ g _ x (one_weight e k) h
+  one_more true e k n g x h = away_plus (one_weight e k) h
   one_more false e k n g x h = h
 
   -- so many entries are at most as many halves away

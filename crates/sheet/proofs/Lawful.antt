@@ -23,7 +23,7 @@ use Rattle.pages.specs.declared.figure.Figure.{Figure}
 use Rattle.pages.specs.Cuts.{Assignment}
 use Rattle.pages.specs.Pages.{Writes, total_figure, run, NearGrams}
 use Rattle.pages.proofs.Nearby.{near_run}
-use Rattle.pages.proofs.Parts.{additive}
+use Rattle.pages.proofs.Parts.{additive, Cutting}
 use Rattle.pages.proofs.Shown.{shown}
 use Rattle.pages.proofs.Telescope.{adds_up}
 use Rattle.sheet.specs.Histories.{Pages, Grades, Event, sent, paged, graded, Run, new, send, page, grade, sends}
@@ -47,8 +47,8 @@ near_exact kg g n x h a b =
     let down : (k +ℤ pos 2) ≤ℤ (pos 2 *ℤ g +ℤ pos 2000) = omega (arith, ints, a.most) in
     let sum : (2000 + n) * d ≡ 2000 * d + n * d = omega arith in
     record {
-      least = omega (arith, ints, b.most, scale_le _ _ d up, apart (pos 2 *ℤ g) (pos 2) d, apart k (pos 2000) d, apart k (pos (2000 + n)) d);
-      most = omega (arith, ints, b.least, scale_le _ _ d down, apart k (pos 2) d, apart (pos 2 *ℤ g) (pos 2000) d);
+      least = omega (arith, ints, b.most, scale_le d up, apart (pos 2 *ℤ g) (pos 2) d, apart k (pos 2000) d, apart k (pos (2000 + n)) d);
+      most = omega (arith, ints, b.least, scale_le d down, apart k (pos 2) d, apart (pos 2 *ℤ g) (pos 2000) d);
     }
 
 module _ (b : BuildingNumbers) (known : Map) where
@@ -137,17 +137,17 @@ module _ (b : BuildingNumbers) (known : Map) where
     drawn : (cut : Assignment) (before : List Figure) (total : Figure) (after : List Figure) → Pages s cut before (Ok total) after → LawfulPage y known sent_bytes cut (take cut.size after) total
     drawn cut before total after p =
         let rows = rows_kept entries kept in
-        let adds = additive _ _ rows.0 rows.1 in
         let sums = booked_sums y known entries in
+        let cutting : Cutting cut sums = record { lawful = p.lawful; adds = additive _ _ rows.0 rows.1 } in
         let w : Writes cut sums before (Ok total) after = subst (λ x. Writes cut x before (Ok total) after) sums_are p.writes in
-        let figures = shown cut sums before total after w in
+        let figures = shown w in
         record {
           entries = entries;
           counts = counts;
           headings = figures;
           totals = w.answer.1;
-          near = λ i j l m. near_exact _ _ _ _ (divides_sum _ entries kept) (rw figures (near_run cut p.lawful sums adds i j l m)) (away_sum y known (λ row. run i j (cut.heading row)) entries kept);
-          adds = rw (figures, w.answer.1) (adds_up cut p.lawful sums adds);
+          near = λ i j l m. near_exact _ _ _ _ (divides_sum _ entries kept) (rw figures (near_run cutting i j l m)) (away_sum y known (λ row. run i j (cut.heading row)) entries kept);
+          adds = rw (figures, w.answer.1) (adds_up cutting);
         }
 
     graded_by : s.building ≡ b → (n : ℕ) → Grades s n → LawfulGrade b known sent_bytes n

@@ -29,8 +29,8 @@ pub record Tallied (held rest : List Taken) (gs : List ℤ) (ns : List ℕ) : Ty
 
 pub none_tallied : (held : List Taken) → Tallied held held (replicate 22 (pos 0)) (replicate 22 0)
 none_tallied held = record {
-  grams = λ choice. ap (λ z. z +ℤ grams_in choice (map row_grams (lines held))) (nothing (pos 0) ◌+ℤ◌ whole choice 1 22) ∙ omega (arith, ints);
-  counts = λ choice. ap (λ n. n + count_in choice (map row_count (lines held))) (nothing 0 ◌+◌ natural choice 1 22) ∙ omega arith;
+  grams = λ choice. ap (λ z. z +ℤ grams_in choice (map row_grams (lines held))) (nothing whole choice 1 22) ∙ omega (arith, ints);
+  counts = λ choice. ap (λ n. n + count_in choice (map row_count (lines held))) (nothing natural choice 1 22) ∙ omega arith;
   light = omega arith;
   few = omega arith;
   grams_places = refl;
@@ -78,15 +78,15 @@ module _ (held : List Taken) (t : Taken) (rest : List Taken) (gs : List ℤ) (ns
 
     more_grams : (choice : ℕ → Bool) → grams_in choice (numbered 1 (set gs at (get_or gs at d +ℤ grams))) +ℤ grams_in choice (map row_grams (lines rest)) ≡ grams_in choice (map row_grams (lines held))
     more_grams choice =
-        let sum = subst (λ row. grams_in choice (numbered 1 (set gs at (get_or gs at d +ℤ grams))) ≡ grams_in choice (numbered 1 gs) +ℤ part (pos 0) choice row grams) row_is (added (pos 0) ◌+ℤ◌ whole choice 1 gs at d grams (omega (arith, range, h.grams_places))) in
-        let head = first (pos 0) ◌+ℤ◌ whole choice l.row grams (map row_grams (lines rest)) in
+        let sum = subst (λ row. grams_in choice (numbered 1 (set gs at (get_or gs at d +ℤ grams))) ≡ grams_in choice (numbered 1 gs) +ℤ part (pos 0) choice row grams) row_is (added whole choice 1 gs at d grams (omega (arith, range, h.grams_places))) in
+        let head = first whole choice l.row grams (map row_grams (lines rest)) in
         let all = subst (λ ls. grams_in choice (numbered 1 gs) +ℤ grams_in choice (map row_grams ls) ≡ grams_in choice (map row_grams (lines held))) more (h.grams choice) in
         omega (arith, ints, sum, head, all)
 
     more_counts : (choice : ℕ → Bool) → count_in choice (numbered 1 (set ns at (get_or ns at c + 1))) + count_in choice (map row_count (lines rest)) ≡ count_in choice (map row_count (lines held))
     more_counts choice =
-        let sum = subst (λ row. count_in choice (numbered 1 (set ns at (get_or ns at c + 1))) ≡ count_in choice (numbered 1 ns) + part 0 choice row 1) row_is (added 0 ◌+◌ natural choice 1 ns at c 1 (omega (arith, range, h.counts_places))) in
-        let head = first 0 ◌+◌ natural choice l.row 1 (map row_count (lines rest)) in
+        let sum = subst (λ row. count_in choice (numbered 1 (set ns at (get_or ns at c + 1))) ≡ count_in choice (numbered 1 ns) + part 0 choice row 1) row_is (added natural choice 1 ns at c 1 (omega (arith, range, h.counts_places))) in
+        let head = first natural choice l.row 1 (map row_count (lines rest)) in
         let all = subst (λ ls. count_in choice (numbered 1 ns) + count_in choice (map row_count ls) ≡ count_in choice (map row_count (lines held))) more (h.counts choice) in
         omega (arith, sum, head, all)
 

@@ -27,6 +27,7 @@ pub(crate) fn is_just_given(wanted: Grade, building: &Building, grams: u32) -> b
 }
 
 // A sheet with nothing but so many grams of energy that is bought for use.
+#[tactic(auto, unfolding(totals::specs::Sums::sum_in, totals::specs::Sums::numbered))]
 fn totals_of(bought: u32) -> Totals
     ensures { weight (sums_of result) ≡ pos bought }
 {

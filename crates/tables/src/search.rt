@@ -27,7 +27,7 @@ pub(crate) const REFERENCE: u16 = 10_000;
 const SHARE_GRAMS: u32 = 10_000;
 
 // The largest limit within which the grade is given to a square metre in a year; none where it is given within no limit.
-#[tactic(auto, using(crate::proofs::Searching::searching))]
+#[tactic(auto, unfolding(crate::specs::Searches::Largest))]
 pub(crate) fn largest_limit(grade: Grade, building: &Building) -> Option<u16>
     ensures { Largest (GivenWithin (grade_number grade) (numbers_of building.now)) 2001 result }
 {
@@ -41,7 +41,7 @@ pub(crate) fn largest_limit(grade: Grade, building: &Building) -> Option<u16>
 }
 
 // By how many per cent of the reference the weight has to lie below it, to the gram; none where no whole number is so many.
-#[tactic(auto, using(crate::proofs::Searching::searching))]
+#[tactic(auto, unfolding(crate::specs::Searches::Largest))]
 pub(crate) fn largest_share(grade: Grade, building: &Building) -> Option<u16>
     ensures { Largest (GivenBelow (grade_number grade) (numbers_of building.now)) 101 result }
 {

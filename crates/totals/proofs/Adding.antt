@@ -1,10 +1,8 @@
 -- Sums over the places of an array, one of which is added to. Assumes nothing.
-use Rattle.std.proofs.Common.{◌≡◌, ℕ, zero, suc, ◌+◌, ◌<◌, ◌≤◌, Bool, true, false, if◌then◌else◌, List, [], ◌∷◌, length, get_or, set, drop, replicate, sum_by, sum, ℤ, pos, ◌+ℤ◌, unsigned_abs, FitsSigned, w64, to_z, of_z, nat_eq, refl, sym, ap, ◌∙◌, arith}
-use Rattle.std.proofs.lemmas.Bool.Decides.{nat_tests}
+use Rattle.std.proofs.Common.{◌≡◌, ℕ, zero, suc, ◌+◌, ◌<◌, ◌≤◌, Bool, true, false, if◌then◌else◌, List, [], ◌∷◌, length, get_or, set, drop, replicate, sum_by, sum, ℤ, pos, ◌+ℤ◌, unsigned_abs, FitsSigned, w64, to_z, of_z, refl, sym, ap, ◌∙◌, arith}
 use Rattle.std.proofs.lemmas.Int.{ints, to_z-of_z, fits_signed_from_abs}
 use Rattle.std.proofs.lemmas.List.{drop_more, drop_all}
-use Rattle.std.proofs.lemmas.List.Folds.{sum_by-replicate}
-use Rattle.std.proofs.lemmas.List.Sums.{sum_by-set, sum_by-cons, get_or-le-sum_by}
+use Rattle.std.proofs.lemmas.List.Sums.{sum_by-set, get_or-le-sum_by}
 use Rattle.totals.specs.Sizes.{most_size}
 use Rattle.totals.specs.Sums.{sum_in, grams_in, count_in, numbered, Sums}
 
@@ -12,58 +10,60 @@ use Rattle.totals.specs.Sums.{sum_in, grams_in, count_in, numbered, Sums}
 abbrev pub sums_in : List (ℕ × ℤ) → List (ℕ × ℕ) → Sums
 sums_in ws ns = record { grams = λ choice. grams_in choice ws; counts = λ choice. count_in choice ns }
 
--- numbers that add in any order, none among them
+-- numbers that add in any order, none among them, and no other that is twice itself
 pub record Adds {X : Type 0} (none : X) (plus : X → X → X) : Type 0 where
   pub with_none : (a : X) → plus none a ≡ a
   pub order : (a b : X) → plus a b ≡ plus b a
   pub apart : (a b c : X) → plus (plus a b) c ≡ plus a (plus b c)
+  pub only : (a : X) → a ≡ plus a a → a ≡ none
 
+-- the whole numbers do, and the natural ones
 pub whole : Adds (pos 0) ◌+ℤ◌
-whole = record { with_none = λ a. omega (arith, ints); order = λ a b. omega (arith, ints); apart = λ a b c. omega (arith, ints) }
+whole = record { with_none = λ a. omega (arith, ints); order = λ a b. omega (arith, ints); apart = λ a b c. omega (arith, ints); only = λ a twice. omega (arith, ints, twice) }
 
 pub natural : Adds 0 ◌+◌
-natural = record { with_none = λ a. omega arith; order = λ a b. omega arith; apart = λ a b c. omega arith }
+natural = record { with_none = λ a. omega arith; order = λ a b. omega arith; apart = λ a b c. omega arith; only = λ a twice. omega (arith, twice) }
 
 -- what one value adds to a sum in chosen rows
 abbrev pub part : {X : Type 0} → X → (ℕ → Bool) → ℕ → X → X
 part none choice row x = if choice row then x else none
 
-module _ {X : Type 0} (none : X) (plus : X → X → X) (laws : Adds none plus) where
+module _ {X : Type 0} {none : X} {plus : X → X → X} (laws : Adds none plus) where
+  -- the last two of three change places
+  turned : (a b c : X) → plus (plus a b) c ≡ plus (plus a c) b
+  turned a b c = laws.apart a b c ∙ ap (plus a) (laws.order b c) ∙ sym (laws.apart a c b)
+
+  -- the middle two of four change places
+  pub crossed : (p q s t : X) → plus (plus p q) (plus s t) ≡ plus (plus p s) (plus q t)
+  crossed p q s t = sym (laws.apart (plus p q) s t) ∙ ap (λ z. plus z t) (turned p q s) ∙ laws.apart (plus p s) q t
+
+  -- a value is added if it is chosen
+  if_chosen : (chosen : Bool) (x s : X) → (if chosen then plus x s else s) ≡ plus (if chosen then x else none) s
+  if_chosen true x s = refl
+  if_chosen false x s = sym (laws.with_none s)
+
+  -- two values of one row are chosen together
+  both_chosen : (chosen : Bool) (x y : X) → (if chosen then plus x y else none) ≡ plus (if chosen then x else none) (if chosen then y else none)
+  both_chosen true x y = refl
+  both_chosen false x y = sym (laws.with_none none)
+
+  -- the first value, and those after it
   pub first : (choice : ℕ → Bool) (row : ℕ) (x : X) (vs : List (ℕ × X)) → sum_in none plus choice ((row, x) ∷ vs) ≡ plus (part none choice row x) (sum_in none plus choice vs)
   unfolding sum_in
-  first choice row x vs =
-      elim (choice row) as (λ b. if b then plus x (sum_in none plus choice vs) else sum_in none plus choice vs ≡ plus (if b then x else none) (sum_in none plus choice vs)) [ true ↦ refl | false ↦ sym (laws.with_none _) ]
+  first choice row x vs = if_chosen (choice row) x (sum_in none plus choice vs)
 
-  -- to one place more is added
-  pub part_added : (choice : ℕ → Bool) (row : ℕ) (x g : X) → part none choice row (plus x g) ≡ plus (part none choice row x) (part none choice row g)
-  part_added choice row x g =
-      elim (choice row) as (λ b. if b then plus x g else none ≡ plus (if b then x else none) (if b then g else none)) [ true ↦ refl | false ↦ sym (laws.with_none none) ]
-
+  -- what is added at a place is added to the sum
   pub added : (choice : ℕ → Bool) (k : ℕ) (xs : List X) (at : ℕ) (d g : X) → at < length xs → sum_in none plus choice (numbered k (set xs at (plus (get_or xs at d) g))) ≡ plus (sum_in none plus choice (numbered k xs)) (part none choice (k + at) g)
   unfolding numbered
   added choice k [] at d g h = absurd (omega arith)
   added choice k (x ∷ xs) zero d g h =
-      let s = sum_in none plus choice (numbered (k + 1) xs) in
-      let p = part none choice k x in
-      let q = part none choice k g in
+      let rest = numbered (k + 1) xs in
       let e : k + 0 ≡ k = omega arith in
-      rw e
-      (first choice k (plus x g) (numbered (k + 1) xs)
-      ∙ ap (λ z. plus z s) (part_added choice k x g)
-      ∙ laws.apart p q s
-      ∙ ap (plus p) (laws.order q s)
-      ∙ sym (laws.apart p s q)
-      ∙ ap (λ z. plus z q) (sym (first choice k x (numbered (k + 1) xs))))
+      rw e (cc (first choice k (plus x g) rest, both_chosen (choice k) x g, turned (part none choice k x) (part none choice k g) (sum_in none plus choice rest), first choice k x rest))
   added choice k (x ∷ xs) (suc at) d g h =
-      let s = sum_in none plus choice (numbered (k + 1) xs) in
-      let p = part none choice k x in
-      let ih = added choice (k + 1) xs at d g (omega arith) in
+      let rest = numbered (k + 1) xs in
       let e : k + suc at ≡ k + 1 + at = omega arith in
-      rw e
-      (first choice k x _
-      ∙ ap (plus p) ih
-      ∙ sym (laws.apart p s _)
-      ∙ ap (λ z. plus z (part none choice (k + 1 + at) g)) (sym (first choice k x (numbered (k + 1) xs))))
+      rw e (cc (first choice k x (numbered (k + 1) (set xs at (plus (get_or xs at d) g))), added choice (k + 1) xs at d g (omega arith), laws.apart (part none choice k x) (sum_in none plus choice rest) (part none choice (k + 1 + at) g), first choice k x rest))
 
   -- the values from place i on are that at i and those after it
   pub one_more : (choice : ℕ → Bool) (k : ℕ) (xs : List X) (i : ℕ) (d : X) → i < length xs → sum_in none plus choice (numbered k (drop i xs)) ≡ plus (part none choice k (get_or xs i d)) (sum_in none plus choice (numbered (k + 1) (drop (i + 1) xs)))
@@ -75,94 +75,43 @@ module _ {X : Type 0} (none : X) (plus : X → X → X) (laws : Adds none plus) 
   unfolding sum_in numbered
   nothing choice k zero = refl
   nothing choice k (suc n) =
-      first choice k none _
-      ∙ ap (plus (part none choice k none)) (nothing choice (k + 1) n)
-      ∙ elim (choice k) as (λ b. plus (if b then none else none) none ≡ none) [ true ↦ laws.with_none none | false ↦ laws.with_none none ]
+      let after = nothing choice (k + 1) n in
+      let s = sum_in none plus choice (numbered (k + 1) (replicate n none)) in
+      elim (choice k) as (λ b. (if b then plus none s else s) ≡ none) [ true ↦ laws.with_none s ∙ after | false ↦ after ]
 
   -- nothing more
   pub no_more : (choice : ℕ → Bool) (k : ℕ) (xs : List X) (i : ℕ) → length xs ≤ i → sum_in none plus choice (numbered k (drop i xs)) ≡ none
   unfolding sum_in numbered
   no_more choice k xs i h = ap (λ ys. sum_in none plus choice (numbered k ys)) (drop_all i xs h)
 
-  -- one row alone
-  none_after : (row k : ℕ) (xs : List X) → row < k → sum_in none plus (λ r. nat_eq r row) (numbered k xs) ≡ none
-  unfolding sum_in numbered
-  none_after row k [] l = refl
-  none_after row k (x ∷ xs) l =
-      let e : nat_eq k row ≡ false = grind (arith, nat_tests) in
-      first (λ r. nat_eq r row) k x (numbered (k + 1) xs)
-      ∙ ap (λ b. plus (if b then x else none) (sum_in none plus (λ r. nat_eq r row) (numbered (k + 1) xs))) e
-      ∙ laws.with_none _
-      ∙ none_after row (k + 1) xs (omega arith)
-
-  pub one_alone : (row k : ℕ) (xs : List X) (i : ℕ) (d : X) → k + i ≡ row → i < length xs → sum_in none plus (λ r. nat_eq r row) (numbered k xs) ≡ get_or xs i d
-  unfolding numbered
-  one_alone row k [] i d e l = absurd (omega arith)
-  one_alone row k (x ∷ xs) zero d e l =
-      let here : nat_eq k row ≡ true = grind (arith, nat_tests) in
-      first (λ r. nat_eq r row) k x (numbered (k + 1) xs)
-      ∙ ap (λ b. plus (if b then x else none) (sum_in none plus (λ r. nat_eq r row) (numbered (k + 1) xs))) here
-      ∙ ap (plus x) (none_after row (k + 1) xs (omega arith))
-      ∙ laws.order x none
-      ∙ laws.with_none x
-  one_alone row k (x ∷ xs) (suc i) d e l =
-      let past : nat_eq k row ≡ false = grind (arith, nat_tests) in
-      first (λ r. nat_eq r row) k x (numbered (k + 1) xs)
-      ∙ ap (λ b. plus (if b then x else none) (sum_in none plus (λ r. nat_eq r row) (numbered (k + 1) xs))) past
-      ∙ laws.with_none _
-      ∙ one_alone row (k + 1) xs i d (omega arith) (omega arith)
-
--- sizes
+-- the size of a sum is at most that of its terms together
 pub size_of_sum : (a b : ℤ) → unsigned_abs (a +ℤ b) ≤ unsigned_abs a + unsigned_abs b
 size_of_sum (pos a) (pos b) = omega (arith, ints)
 size_of_sum a b = omega (arith, ints)
 
+-- a number as 64 bits hold it
+abbrev pub held : ℤ → ℤ
+held z = to_z w64 (of_z w64 z)
+
 -- two numbers that are light together: their sum fits, and is what it is read back as
 module _ (a b : ℤ) (light : unsigned_abs a + unsigned_abs b ≤ most_size) where
-  kept_left : to_z w64 (of_z w64 a) ≡ a
-  kept_left = to_z-of_z w64 a (fits_signed_from_abs w64 a (omega arith))
+  held_both : held a +ℤ held b ≡ a +ℤ b
+  held_both = rw (to_z-of_z w64 a (fits_signed_from_abs w64 a (omega arith)), to_z-of_z w64 b (fits_signed_from_abs w64 b (omega arith))) refl
 
-  kept_right : to_z w64 (of_z w64 b) ≡ b
-  kept_right = to_z-of_z w64 b (fits_signed_from_abs w64 b (omega arith))
+  pub light_fits : FitsSigned w64 (held a +ℤ held b)
+  light_fits = rw held_both (fits_signed_from_abs w64 (a +ℤ b) (omega (arith, size_of_sum a b)))
 
-  pub light_fits : FitsSigned w64 (to_z w64 (of_z w64 a) +ℤ to_z w64 (of_z w64 b))
-  light_fits = rw (kept_left, kept_right) (fits_signed_from_abs w64 (a +ℤ b) (omega (arith, size_of_sum a b)))
+  pub light_kept : held (held a +ℤ held b) ≡ a +ℤ b
+  light_kept = to_z-of_z w64 (held a +ℤ held b) light_fits ∙ held_both
 
-  pub light_kept : to_z w64 (of_z w64 (to_z w64 (of_z w64 a) +ℤ to_z w64 (of_z w64 b))) ≡ a +ℤ b
-  light_kept = to_z-of_z w64 _ light_fits ∙ rw (kept_left, kept_right) refl
-
+-- a value more: sizes grow by its size at most
 pub sizes_added : (xs : List ℤ) (at : ℕ) (d g : ℤ) → at < length xs → sum_by unsigned_abs (set xs at (get_or xs at d +ℤ g)) ≤ sum_by unsigned_abs xs + unsigned_abs g
 sizes_added xs at d g h = omega (arith, sum_by-set unsigned_abs xs at (get_or xs at d +ℤ g) d h, size_of_sum (get_or xs at d) g)
 
+-- no value is larger than all sizes together
 pub size_most : (xs : List ℤ) (at : ℕ) (d : ℤ) → at < length xs → unsigned_abs (get_or xs at d) ≤ sum_by unsigned_abs xs
 size_most xs at d h = get_or-le-sum_by unsigned_abs xs at d h
 
+-- a count more
 pub counts_added : (xs : List ℕ) (at d g : ℕ) → at < length xs → sum (set xs at (get_or xs at d + g)) ≡ sum xs + g
 counts_added xs at d g h = omega (arith, sum_by-set (λ x. x) xs at (get_or xs at d + g) d h)
-
--- what any choice of rows comes to is no larger than all sizes together
-pub sum_most : (choice : ℕ → Bool) (k : ℕ) (xs : List ℤ) → unsigned_abs (grams_in choice (numbered k xs)) ≤ sum_by unsigned_abs xs
-unfolding sum_in numbered
-sum_most choice k [] = omega arith
-sum_most choice k (x ∷ xs) =
-    let ih = sum_most choice (k + 1) xs in
-    let s = grams_in choice (numbered (k + 1) xs) in
-    let m = size_of_sum x s in
-    let e = sum_by-cons unsigned_abs x xs in
-    elim (choice k) as (λ b. unsigned_abs (if b then x +ℤ s else s) ≤ sum_by unsigned_abs (x ∷ xs)) [ true ↦ omega arith | false ↦ omega arith ]
-
-pub counts_most : (choice : ℕ → Bool) (k : ℕ) (xs : List ℕ) → count_in choice (numbered k xs) ≤ sum xs
-unfolding sum_in numbered
-counts_most choice k [] = omega arith
-counts_most choice k (x ∷ xs) =
-    let ih = counts_most choice (k + 1) xs in
-    let s = count_in choice (numbered (k + 1) xs) in
-    let e = sum_by-cons (λ y. y) x xs in
-    elim (choice k) as (λ b. (if b then x + s else s) ≤ sum (x ∷ xs)) [ true ↦ omega arith | false ↦ omega arith ]
-
--- no sizes yet
-pub no_sizes : (n : ℕ) → sum_by unsigned_abs (replicate n (pos 0)) ≡ 0
-no_sizes n = sum_by-replicate unsigned_abs n (pos 0) ∙ omega arith
-
-pub no_counts : (n : ℕ) → sum (replicate n 0) ≡ 0
-no_counts n = sum_by-replicate (λ x. x) n 0 ∙ omega arith

@@ -11,4 +11,4 @@ returns c =
     let basis = basis_of c.args.basis.now in
     let value =
     IfOk-weaker c.format.result _ (λ s. Line basis part.place part.start part.bytes.now (string_bytes s)) (λ s e. record { said = _; tells = c.of-statement.ensures; text = e }) c.format.ensures.ok in
-    record { value = value; only = IfOk-weaker c.format.result _ _ (λ s line other more. line_only basis _ _ part.bytes.now _ _ more line) value }
+    record { value = value; only = IfOk-weaker c.format.result _ _ (λ s line other more. line_only more line) value }

@@ -21,4 +21,4 @@ returns c =
     let none = c.in_default.ensures in
     let lists = last_more (basis_of c.in_ok-basis.basis) c.loop-part.invariant c.next_note.new.self c.left.result none.0 none.1 c.left.ensures c.in_ok-last.ensures c.in_ok-push_str-2.ensures.bytes c.as_str-2.ensures.value in
     let listing : Listing c.args.feed.now _ = record { building = _; rows = _; begins = c.in_ok-basis.ensures; lists = lists } in
-    record { value = listing; only = λ other more. listing_only _ _ _ more listing }
+    record { value = listing; only = λ other more. listing_only more listing }

@@ -2,26 +2,18 @@ use Rattle.std.proofs.Common.{Err, string_bytes}
 use Rattle.std.proofs.lemmas.Result.{IfOk-weaker}
 use Rattle.report.specs.Reports.{Reports, denied, account}
 use Rattle.report.specs.Projects.{Opens}
-use Rattle.report.proofs.Only.{report_only, report_lawful}
+use Rattle.report.proofs.Only.{only_report, lawful_report}
 use Rattle.report.proofs.whole.report.Goals as goal
 
 pub returns-in-Ok : goal.returns-in-Ok
 returns-in-Ok c =
     let feed = c.args.feed.now in
     let value = IfOk-weaker c.account.result _ (λ s. Reports feed (string_bytes s)) (λ s a. account c.in-Ok.ensures a) c.account.ensures in
-    record {
-      value = value;
-      only = IfOk-weaker c.account.result _ _ (λ s reports other more. report_only feed other (string_bytes s) more reports) value;
-      law = IfOk-weaker c.account.result _ _ (λ s reports. report_lawful feed (string_bytes s) reports) value;
-    }
+    record { value = value; only = only_report feed c.account.result value; law = lawful_report feed c.account.result value }
 
 pub returns-in-Err-Refused : goal.returns-in-Err-Refused
 returns-in-Err-Refused c =
     let feed = c.args.feed.now in
     let opens : Opens feed (Err c.in-Err-Refused.refusal) = rw c.in-Err-Refused.field-0-is at c.in-Err-Refused.ensures in
     let value = IfOk-weaker c.denied_line.result _ (λ s. Reports feed (string_bytes s)) (λ s is. denied opens is) c.denied_line.ensures in
-    record {
-      value = value;
-      only = IfOk-weaker c.denied_line.result _ _ (λ s reports other more. report_only feed other (string_bytes s) more reports) value;
-      law = IfOk-weaker c.denied_line.result _ _ (λ s reports. report_lawful feed (string_bytes s) reports) value;
-    }
+    record { value = value; only = only_report feed c.denied_line.result value; law = lawful_report feed c.denied_line.result value }

@@ -1,26 +1,23 @@
-use Rattle.std.proofs.Common.{◌≡◌, pos, ◌+ℤ◌, ◌*ℤ◌, nat_abs, ap, ◌∙◌, arith, w64, to_z, of_z}
-use lib.Signed.{pos-nat_abs}
-use Rattle.std.specs.Int.{int_div_euclid, int_rem_euclid}
-use Rattle.std.proofs.lemmas.Int.{ints}
-use Rattle.exact.specs.Rounding.{over, nearest}
+use Rattle.std.proofs.Common.{◌≡◌, pos, ◌+ℤ◌, ◌*ℤ◌, nat_abs, ◌∙◌, arith, rules, w64, FitsSigned, to_z, of_z}
+use Rattle.std.proofs.lemmas.Int.{ints, to_z-of_z}
 use Rattle.exact.proofs.Nearness.{rounding}
 use Rattle.exact.proofs.Products.{whole_and_rest}
 use Rattle.exact.proofs.ratio.Ratio.nearest.Goals as goal
 
+-- the whole and the rest that the machine finds are the number again
+parts : (c : goal.After-nearest) → c.div_euclid-whole.result *ℤ pos c.args.self.divisor +ℤ c.rem_euclid-rest.result ≡ c.args.self.numerator
+parts c =
+    let numerator : FitsSigned w64 c.args.self.numerator = search rules in
+    let divisor : FitsSigned w64 c.from-divisor.result = search rules in
+    let whole = simp to_z-of_z at c.div_euclid-whole.ensures in
+    let rest = simp to_z-of_z at c.rem_euclid-rest.ensures.value in
+    rw (whole, rest, c.from-divisor.ensures) (whole_and_rest c.args.self.numerator c.args.self.divides)
+
 pub returns : goal.returns
 returns c =
-    let a = c.args.self in
-    let whole = c.div_euclid-whole.result in
-    let rest = c.rem_euclid-rest.result in
-    let n_is : to_z w64 (of_z w64 a.numerator) ≡ a.numerator = omega (arith, ints) in
-    let d_is : to_z w64 (of_z w64 c.from-divisor.result) ≡ pos a.divisor = omega (arith, ints) in
-    let whole_is : to_z w64 (of_z w64 whole) ≡ whole = omega (arith, ints) in
-    let rest_is : to_z w64 (of_z w64 rest) ≡ rest = omega (arith, ints) in
-    let parts =
-    whole_and_rest a.numerator whole rest a.divisor a.divides (c.div_euclid-whole.ensures ∙ (λ i. int_div_euclid (n_is i) (d_is i)))
-    (c.rem_euclid-rest.ensures.value ∙ (λ i. int_rem_euclid (n_is i) (d_is i))) in
-    let sum = (λ i. whole_is i *ℤ pos (c.from.ensures i) +ℤ pos (nat_abs (rest_is i))) ∙ ap (λ r. whole *ℤ pos a.divisor +ℤ r) (pos-nat_abs rest c.rem_euclid-rest.ensures.lower_bound) ∙ parts in
+    let whole : to_z w64 (of_z w64 c.div_euclid-whole.result) ≡ c.div_euclid-whole.result = omega (arith, ints) in
+    let rest : pos (nat_abs (to_z w64 (of_z w64 c.rem_euclid-rest.result))) ≡ c.rem_euclid-rest.result = omega (arith, ints, c.rem_euclid-rest.ensures.lower_bound) in
     record {
-      value = omega (arith, ints) ∙ c.nearest.ensures ∙ (λ i. nearest (over (sum i) (c.from.ensures i)));
+      value = omega (arith, ints) ∙ c.nearest.ensures ∙ cc (whole, rest, c.from.ensures, parts c);
       laws = rounding;
     }
