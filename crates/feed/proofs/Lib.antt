@@ -5,3 +5,4 @@ pub mod Ending
 pub mod Beginning
 pub mod Looping
 pub mod Rows
+pub mod Enough

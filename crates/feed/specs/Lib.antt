@@ -11,3 +11,4 @@ pub mod Rows
 pub mod Feeds
 pub mod Openings
 pub mod Words
+pub mod Writing

@@ -6,6 +6,7 @@ mod content;
 pub mod entry;
 pub mod factor;
 pub mod frame;
+pub mod input;
 pub mod kind;
 mod little;
 pub mod note;

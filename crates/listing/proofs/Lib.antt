@@ -3,3 +3,4 @@ mod Texts
 mod Turns
 mod Begun
 mod Only
+mod Enough

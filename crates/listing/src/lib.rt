@@ -6,6 +6,8 @@ mod lines;
 mod outcome;
 mod statement;
 mod whole;
+mod writing;
 
 pub use lines::line;
 pub use whole::listing;
+pub use writing::write_listing;

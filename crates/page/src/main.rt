@@ -1,10 +1,9 @@
 // Prints the report of the feed on standard input.
 #![tactic(auto)]
 
-use report::{read_feed, report};
+use report::write_report;
+use std::io;
 
-fn main(rt: HostRuntime) -> anyhow::Result<()> {
-    let feed = read_feed(rt.alloc(), rt.stdin())?;
-    rt.print(report(rt.alloc(), feed.as_slice())?)?;
-    Ok(())
+fn main(rt: HostRuntime) -> io::Result<()> {
+    write_report(rt.alloc(), rt.stdin(), &mut rt.stdout())
 }

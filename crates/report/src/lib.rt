@@ -4,10 +4,10 @@
 mod account;
 mod lines;
 mod project;
-mod reading;
 mod sending;
 mod whole;
+mod writing;
 
 pub use lines::{denied_line, grade_line, page_lines, stage_line, total_line};
-pub use reading::read_feed;
 pub use whole::report;
+pub use writing::write_report;

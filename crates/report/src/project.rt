@@ -7,12 +7,10 @@ ghost use Rattle.refusals.specs.Refusals.{Judged};
 ghost use Rattle.report.specs.Projects.{ReadsProject, ReadsRow, ReadsRows};
 
 use domain::{Building, FactorRow};
+use feed::input::MOST_BYTES;
 use feed::opening::{Opening, OpeningError};
 use refusals::Refusal;
 use std::alloc::Global;
-
-// The most bytes that a feed has.
-pub(crate) const MOST_BYTES: usize = 65_536;
 
 // The most rows that a project lists.
 const MOST_ROWS: usize = 256;

@@ -1,0 +1,10 @@
+-- What is written for a feed: its listing, or that it is too long. Assumes nothing.
+use Rattle.std.specs.Prelude.{◌≡◌, ℕ, ◌<◌, ◌≤◌, List, ◌++◌, length, codes}
+use Rattle.refusals.specs.declared.refusal.Refusal.TheVariants.{FeedTooLong}
+use Rattle.refusals.specs.Texts.{refusal_said}
+use Rattle.listing.specs.Listings.{Listing}
+
+-- text is what is written for a feed: its listing, or, of a feed that is too long, one line with the refusal
+pub record ListsOrRefuses (feed text : List ℕ) : Type 0 where
+  pub listed : length feed ≤ 65536 → Listing feed text
+  pub refused : 65536 < length feed → text ≡ refusal_said FeedTooLong ++ codes "\n"

@@ -1,0 +1,35 @@
+// The listing of what a reader has, written to a writer.
+ghost use Rattle.std.specs.Prelude.{◌≡◌, ℕ, List, IfOk, IfSome, OnOk, string_bytes};
+ghost use Rattle.feed.specs.Writing.{Written};
+ghost use Rattle.listing.specs.Answers.{ListsOrRefuses};
+
+use crate::whole::listing;
+use feed::input::{MOST_BYTES, read_feed};
+use refusals::Refusal;
+use std::alloc::{AllocError, Global};
+use std::io::{self, Read, Write};
+
+// Reads a feed, and writes its listing as a whole, or that it is too long: where the text cannot be made, nothing is written.
+pub fn write_listing<R: Read + Drop, W: Write>(
+    heap: Global,
+    reader: R,
+    writer: &mut W,
+) -> io::Result<()>
+    ensures value { OnOk result (IfSome (R.remaining reader) (λ feed. Written (ListsOrRefuses feed) (W.contents writer.old) (W.contents writer.new))) }
+    ensures only { OnOk result (IfSome (R.remaining reader) (λ feed. Written (λ text. (other : List ℕ) → ListsOrRefuses feed other → other ≡ text) (W.contents writer.old) (W.contents writer.new))) }
+{
+    let feed = read_feed(heap, reader)?;
+    let text = listing_or_refusal(heap, feed.as_slice())?;
+    writer.write_all(text.as_str().as_bytes())
+}
+
+// The listing of a feed, or the line that refuses one that is too long.
+fn listing_or_refusal(heap: Global, feed: &[u8]) -> Result<String, AllocError>
+    ensures { IfOk result (λ text. ListsOrRefuses feed.now (string_bytes text)) }
+{
+    if feed.len() > MOST_BYTES {
+        let refusal = Refusal::FeedTooLong;
+        return format!(in heap; "{refusal}\n");
+    }
+    listing(heap, feed)
+}

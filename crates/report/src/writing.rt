@@ -1,0 +1,24 @@
+// The report of what a reader has, written to a writer.
+ghost use Rattle.std.specs.Prelude.{◌≡◌, ℕ, List, IfSome, OnOk};
+ghost use Rattle.feed.specs.Writing.{Written};
+ghost use Rattle.report.specs.Reports.{Reports, LawfulReport};
+
+use crate::whole::report;
+use feed::input::read_feed;
+use std::alloc::Global;
+use std::io::{self, Read, Write};
+
+// Reads a feed, and writes its report as a whole: where it cannot be made, nothing is written.
+pub fn write_report<R: Read + Drop, W: Write>(
+    heap: Global,
+    reader: R,
+    writer: &mut W,
+) -> io::Result<()>
+    ensures value { OnOk result (IfSome (R.remaining reader) (λ feed. Written (Reports feed) (W.contents writer.old) (W.contents writer.new))) }
+    ensures only { OnOk result (IfSome (R.remaining reader) (λ feed. Written (λ text. (other : List ℕ) → Reports feed other → other ≡ text) (W.contents writer.old) (W.contents writer.new))) }
+    ensures law { OnOk result (IfSome (R.remaining reader) (λ feed. Written (LawfulReport feed) (W.contents writer.old) (W.contents writer.new))) }
+{
+    let feed = read_feed(heap, reader)?;
+    let text = report(heap, feed.as_slice())?;
+    writer.write_all(text.as_str().as_bytes())
+}
