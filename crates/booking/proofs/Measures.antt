@@ -1,11 +1,15 @@
 -- Quantities: their ranges by the code's tests, and what is booked of them. Assumes nothing.
-use Rattle.std.proofs.Common.{◌≡◌, ℕ, zero, suc, ◌+◌, ◌*◌, ◌<◌, ◌≤◌, ◌↔◌, true, false, ◌||◌, ◌&&◌, ltb, eqb, ℤ, pos, sym, refl, ap, ◌∙◌, subst, true≢false, arith}
-use lib.Ieee.{Float, nan, inf, fin, up, down, binary64, of_bits, lt, le, eq}
+use Rattle.std.proofs.Common.{◌≡◌, ℕ, zero, suc, ◌+◌, ◌*◌, ◌<◌, ◌≤◌, ◌↔◌, true, false, ◌||◌, ◌&&◌, ltb, eqb, ℤ, pos, ◌*ℤ◌, nat_abs, Ok, Err, Result, IfOk, sym, refl, ap, ◌∙◌, subst, true≢false, arith}
+use lib.Ieee.{Float, nan, inf, fin, up, down, binary64, of_bits, is_nan, lt, le, eq}
 use lib.Ieee.Fits.{up_pos, down_pos}
 use Rattle.std.specs.Bool.{IsTrue}
 use Rattle.std.proofs.lemmas.Bool.Decides.{nat_tests}
-use Rattle.exact.specs.Rounding.{Divides, WithinHalf}
-use Rattle.exact.proofs.Nearness.{rounded_near, rounded_most}
+use Rattle.std.proofs.lemmas.Int.{ints}
+use Rattle.refusals.specs.declared.refusal.Refusal.{Refusal}
+use Rattle.refusals.specs.declared.refusal.Refusal.TheVariants.{UnfitQuantity}
+use Rattle.refusals.specs.Refusals.{Judged}
+use Rattle.exact.specs.Rounding.{over, Divides, nearest, WithinHalf}
+use Rattle.exact.proofs.Nearness.{stays, rounded_near, rounded_most}
 use Rattle.domain.specs.declared.entry.Quantity.{Quantity}
 use Rattle.domain.specs.declared.entry.Quantity.TheVariants.{Counted, Measured}
 use Rattle.booking.specs.Quantities.{MeasuredInRange, measured_thousandths, QuantityInRange, exact_thousandths, booked_thousandths}
@@ -31,6 +35,13 @@ least_measured = of_bits binary64 0
 
 abbrev most_measured : Float
 most_measured = of_bits binary64 4696837146684686336
+
+-- no NaN is in range
+pub nan_out : (x : Float) → is_nan x ≡ true → MeasuredInRange x → ⊥
+unfolding is_nan
+nan_out nan n r = r
+nan_out (inf s) n r = r
+nan_out (fin s m e) n r = absurd (true≢false (sym n))
 
 -- both comparisons hold of a number in range, and of nothing else
 pub passes : (x : Float) → IsTrue (le least_measured x) → IsTrue (le x most_measured) → MeasuredInRange x
@@ -65,6 +76,17 @@ booked_near q is = subst (λ n. WithinHalf (pos n) (exact_thousandths q)) (sym i
     near (Measured nan) = rounded_near 0 1 (omega arith)
     near (Measured (inf s)) = rounded_near 0 1 (omega arith)
     near (Measured (fin s m e)) = rounded_near (1000 * (m * up e)) (down e) (down_pos e)
+
+-- and so is whatever is answered of it
+pub judged_near : (q : Quantity) (r : Result ℕ Refusal) → Judged (QuantityInRange q) UnfitQuantity (λ t. t ≡ booked_thousandths q) r → IfOk r (λ t. WithinHalf (pos t) (exact_thousandths q))
+judged_near q (Ok t) judged = booked_near q judged.1
+judged_near q (Err f) judged = tt
+
+-- a counted quantity is booked as it was counted
+pub counted_is : (n : ℕ) → n ≡ booked_thousandths (Counted n)
+counted_is n =
+    let whole : pos n *ℤ pos 1 ≡ pos n = omega (arith, ints) in
+    ap nat_abs (sym (stays (pos n) 1 (omega arith)) ∙ ap (λ m. nearest (over m 1)) whole)
 
 -- a quantity in range is booked in range
 pub booked_range : (q : Quantity) → QuantityInRange q → booked_thousandths q ≤ 1000000000

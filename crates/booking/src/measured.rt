@@ -17,10 +17,12 @@ const LEADING_DIGIT: u64 = 1 << DIGITS;
 // The smallest numbers have the exponent 0 and no leading digit: they are counted in 2 to the power of -1074.
 const SMALLEST: u32 = 1074;
 
-// Neither comparison with a NaN holds, and an infinity fails one of them.
 pub(crate) fn is_in_range(x: f64) -> bool
     ensures { IsTrue result ↔ MeasuredInRange x }
 {
+    if x.is_nan() {
+        return false;
+    }
     x >= 0.0 && x <= MOST
 }
 

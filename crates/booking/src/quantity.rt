@@ -1,5 +1,6 @@
 // The thousandths that are booked of a quantity.
-ghost use Rattle.std.specs.Prelude.{◌≡◌, ◌↔◌, IsTrue, pos, IfOk};
+ghost use Rattle.std.specs.Prelude.{◌≡◌, pos, IfOk};
+ghost use Rattle.domain.specs.declared.entry.Quantity.TheVariants.{Counted, Measured};
 ghost use Rattle.exact.specs.Rounding.{WithinHalf};
 ghost use Rattle.booking.specs.Quantities.{QuantityInRange, exact_thousandths, booked_thousandths};
 ghost use Rattle.refusals.specs.declared.refusal.Refusal.TheVariants.{UnfitQuantity};
@@ -16,27 +17,26 @@ pub fn thousandths(quantity: Quantity) -> Result<u64, Refusal>
     ensures value { Judged (QuantityInRange quantity) UnfitQuantity (λ t. t ≡ booked_thousandths quantity) result }
     ensures near { IfOk result (λ t. WithinHalf (pos t) (exact_thousandths quantity)) }
 {
-    if !fits(quantity) {
+    match quantity {
+        Quantity::Counted(n) => counted_thousandths(n),
+        Quantity::Measured(x) => measured_thousandths(x),
+    }
+}
+
+fn counted_thousandths(n: u64) -> Result<u64, Refusal>
+    ensures { Judged (QuantityInRange (Counted n)) UnfitQuantity (λ t. t ≡ booked_thousandths (Counted n)) result }
+{
+    if n > MOST_COUNTED {
         return Err(Refusal::UnfitQuantity);
     }
-    Ok(nearest_thousandths(quantity))
+    Ok(n)
 }
 
-fn fits(quantity: Quantity) -> bool
-    ensures { IsTrue result ↔ QuantityInRange quantity }
+fn measured_thousandths(x: f64) -> Result<u64, Refusal>
+    ensures { Judged (QuantityInRange (Measured x)) UnfitQuantity (λ t. t ≡ booked_thousandths (Measured x)) result }
 {
-    match quantity {
-        Quantity::Counted(n) => n <= MOST_COUNTED,
-        Quantity::Measured(x) => is_in_range(x),
+    if !is_in_range(x) {
+        return Err(Refusal::UnfitQuantity);
     }
-}
-
-fn nearest_thousandths(quantity: Quantity) -> u64
-    requires { QuantityInRange quantity }
-    ensures { result ≡ booked_thousandths quantity }
-{
-    match quantity {
-        Quantity::Counted(n) => n,
-        Quantity::Measured(x) => exact_thousandths(x).nearest(),
-    }
+    Ok(exact_thousandths(x).nearest())
 }

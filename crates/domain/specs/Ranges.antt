@@ -16,21 +16,21 @@ from_to least most = record { least = least; most = most }
 abbrev pub Ranged : Type 0
 Ranged = Range × ℕ
 
-abbrev pub InRange : Ranged → Type 0
-InRange x = Within x.0.least x.1 x.0.most
+abbrev pub IsWithin : Ranged → Type 0
+IsWithin x = Within x.0.least x.1 x.0.most
 
 -- whether it is
-abbrev pub is_in_range : Ranged → Bool
-is_in_range x = nat_le x.0.least x.1 && nat_le x.1 x.0.most
+abbrev pub is_within : Ranged → Bool
+is_within x = nat_le x.0.least x.1 && nat_le x.1 x.0.most
 
 -- all of these are in their ranges
-abbrev pub AllInRange : List Ranged → Type 0
-AllInRange [] = Unit {0}
-AllInRange (x ∷ xs) = InRange x × AllInRange xs
+abbrev pub AllWithin : List Ranged → Type 0
+AllWithin [] = Unit {0}
+AllWithin (x ∷ xs) = IsWithin x × AllWithin xs
 
-abbrev pub all_in_range : List Ranged → Bool
-all_in_range [] = true
-all_in_range (x ∷ xs) = is_in_range x && all_in_range xs
+abbrev pub all_within : List Ranged → Bool
+all_within [] = true
+all_within (x ∷ xs) = is_within x && all_within xs
 
 -- of a building: tenths of a square metre
 abbrev pub AreaRange : ℕ → Type 0
@@ -58,10 +58,10 @@ abbrev pub amount_range : Range
 amount_range = from_to 0 1000000000
 
 abbrev pub AmountRange : ℕ → Type 0
-AmountRange n = InRange (amount_range, n)
+AmountRange n = IsWithin (amount_range, n)
 
 abbrev pub unit_range : Range
 unit_range = from_to 1 7
 
 abbrev pub UnitRange : ℕ → Type 0
-UnitRange n = InRange (unit_range, n)
+UnitRange n = IsWithin (unit_range, n)

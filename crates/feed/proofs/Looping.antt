@@ -14,8 +14,8 @@ module _ {X : Type 0} (Of : ℕ → ℕ → List ℕ → List X → Type 0) wher
   pub none_yet : (r : Reader) {done : List X} → done ≡ [] → Sofar (r.handed + 1) r.start (left_of r) r done
   none_yet r empty = record { before = λ more h. rw empty h }
 
-  pub opened : {feed : List ℕ} {r : Reader} {done : List X} → Opened feed r → done ≡ [] → Sofar 1 0 feed r done
-  opened start empty = record { before = λ more h. rw empty (rw (start.bytes, start.notes, start.over) at h) }
+  pub begun : {feed : List ℕ} {r : Reader} {done : List X} → Opened feed r → done ≡ [] → Sofar 1 0 feed r done
+  begun start empty = record { before = λ more h. rw empty (rw (start.bytes, start.notes, start.over) at h) }
 
   module _ {k at : ℕ} {bytes : List ℕ} {r : Reader} {done : List X} (old : Sofar k at bytes r done) where
     -- one note more, of which `item` was found

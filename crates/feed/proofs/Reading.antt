@@ -10,8 +10,8 @@ use Rattle.feed.specs.Readings.{framing, form, Reads}
 use Rattle.feed.proofs.Framing.{one_first, framed_one, first_one}
 
 -- what first_note gives has a length and a kind
-pub headed : (bs note : List ℕ) → Framed bs → note ≡ first_note bs → 4 ≤ length note
-headed bs note framed is = omega (arith, (one_first bs framed).head, ap length is)
+pub headed : {bs note : List ℕ} → Framed bs → note ≡ first_note bs → 4 ≤ length note
+headed {bs} framed is = omega (arith, (one_first bs framed).head, ap length is)
 
 module _ {X : Type 0} (Wanted : Kind → Type 0) (Value : List ℕ → X → Type 0) (bs : List ℕ) where
   -- what is answered to the first note of framed bytes, is answered to the bytes

@@ -20,24 +20,24 @@ rows_only bs notes notes' left left' (ended other) (row first more) = absurd (ot
 rows_only bs notes notes' left left' (ended other) (ended other') = (refl, refl)
 
 -- what reading the factor rows answers that bytes begin with, before what is left
-pub record Answered (left : List ℕ) (bs : List ℕ) (answers : List (Result FactorRow Refusal)) : Type 0 where
+pub record RowsAnswered (left : List ℕ) (bs : List ℕ) (answers : List (Result FactorRow Refusal)) : Type 0 where
   pub notes : List (List ℕ)
   pub rows : RowNotes bs notes left
   pub read : RowsRead notes answers
 
 -- a reader has handed out rows since it was `start`, and these were answered
 pub record RowsSofar (start r : Reader) (answers : List (Result FactorRow Refusal)) : Type 0 where
-  pub sofar : (left : List ℕ) → Sofar (λ k at. Answered left) (start.handed + 1) start.start (left_of start) r answers
+  pub sofar : (left : List ℕ) → Sofar (λ k at. RowsAnswered left) (start.handed + 1) start.start (left_of start) r answers
 
 pub no_rows_yet : (r : Reader) {answers : List (Result FactorRow Refusal)} → answers ≡ [] → RowsSofar r r answers
-no_rows_yet r empty = record { sofar = λ left. none_yet (λ k at. Answered left) r empty }
+no_rows_yet r empty = record { sofar = λ left. none_yet (λ k at. RowsAnswered left) r empty }
 
 module _ {start r : Reader} {answers : List (Result FactorRow Refusal)} (old : RowsSofar start r answers) where
   pub row_more : {p : Part} {t : Reader} {longer : List (Result FactorRow Refusal)} (a : Result FactorRow Refusal) → HandsRow r (Some p) t → ReadsFactorRow (text p) a → longer ≡ answers ++ (a ∷ []) → RowsSofar start t longer
   row_more {p} {t} a step reads is =
       record {
         sofar = λ left.
-            one_more (λ k at. Answered left) (old.sofar left) (a ∷ []) step.1 is
+            one_more (λ k at. RowsAnswered left) (old.sofar left) (a ∷ []) step.1 is
             (λ more found. record {
               notes = text p ∷ found.notes;
               rows = subst (λ bs. RowNotes bs (text p ∷ found.notes) left) (sym (hands_next r p t step.1))
@@ -46,6 +46,6 @@ module _ {start r : Reader} {answers : List (Result FactorRow Refusal)} (old : R
             });
       }
 
-  pub no_row_more : {t : Reader} → HandsRow r None t → Answered (left_of t) (left_of start) answers
+  pub no_row_more : {t : Reader} → HandsRow r None t → RowsAnswered (left_of t) (left_of start) answers
   no_row_more {t} step =
-      all (λ k at. Answered (left_of t)) (old.sofar (left_of t)) (record { notes = []; rows = rw step.1 (ended step.0); read = none }) (sym (append-nil answers))
+      all (λ k at. RowsAnswered (left_of t)) (old.sofar (left_of t)) (record { notes = []; rows = rw step.1 (ended step.0); read = none }) (sym (append-nil answers))

@@ -12,9 +12,15 @@ use Rattle.feed.specs.declared.kind.Kind.{Kind}
 use Rattle.feed.specs.declared.kind.Kind.TheVariants.{Counted as CountedEntry, Measured as MeasuredEntry}
 use Rattle.feed.specs.Fields.{field}
 
--- after the number and the revision come row, span and code, and then the quantity
+-- after the length and the kind of a note come, in every note that is sent, its number and its revision; and in an entry row, span and code, and then its quantity
+abbrev pub number_at : ℕ
+number_at = 4
+
+abbrev pub revision_at : ℕ
+revision_at = number_at + 4
+
 abbrev pub row_at : ℕ
-row_at = 12
+row_at = revision_at + 4
 
 abbrev pub span_at : ℕ
 span_at = row_at + 2

@@ -7,7 +7,7 @@ use Rattle.feed.specs.declared.sent.Sent.{Sent}
 use Rattle.feed.specs.declared.sent.SentContent.{SentContent}
 use Rattle.feed.specs.declared.sent.SentContent.TheVariants.{Entry, Withdrawal}
 use Rattle.domain.specs.declared.entry.Entry.{Entry as BookedEntry}
-use Rattle.feed.specs.Entries.{entry_head, entry_kind, kind_quantity, sent_entry}
+use Rattle.feed.specs.Entries.{number_at, revision_at, entry_head, entry_kind, kind_quantity, sent_entry}
 use Rattle.feed.specs.Fields.{field}
 use Rattle.feed.specs.Kinds.{kind_in}
 
@@ -24,7 +24,7 @@ content_of None note = Withdrawal
 
 -- what a note says that is sent: its number and its revision come first
 abbrev pub sent_of : List ℕ → Sent
-sent_of note = record { number = field note 4 4; revision = field note 8 4; content = content_of (kind_quantity (kind_in note) note) note }
+sent_of note = record { number = field note number_at 4; revision = field note revision_at 4; content = content_of (kind_quantity (kind_in note) note) note }
 
 -- a note is of a kind that is sent, and says s
 abbrev pub SaysSent : List ℕ → Sent → Type 0

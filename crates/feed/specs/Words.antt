@@ -27,15 +27,15 @@ content_fields (Entry e) = entry_fields e
 content_fields Withdrawal = []
 
 -- a kind in a word, and fields by name
-abbrev pub kind_said : Kind → List Named → List ℕ
-kind_said kind fields = kind_word kind ++ (codes " " ++ fields_said fields)
+abbrev pub said_of : Kind → List Named → List ℕ
+said_of kind fields = kind_word kind ++ (codes " " ++ fields_said fields)
 
 -- what a note says that is sent: its number and its revision come first
 abbrev pub sent_said : Sent → List ℕ
-sent_said s = kind_said (sent_kind s.content) ((codes "number", s.number) ∷ (codes "revision", s.revision) ∷ content_fields s.content)
+sent_said s = said_of (sent_kind s.content) ((codes "number", s.number) ∷ (codes "revision", s.revision) ∷ content_fields s.content)
 
 -- what a note says
 abbrev pub words : Note → List ℕ
-words (Building b) = kind_said BuildingNote (building_fields (numbers_of b))
-words (Factor row) = kind_said FactorNote (row_fields row)
+words (Building b) = said_of BuildingNote (building_fields (numbers_of b))
+words (Factor row) = said_of FactorNote (row_fields row)
 words (SentNote s) = sent_said s

@@ -2,6 +2,8 @@
 ghost use Rattle.std.specs.Prelude.{◌≡◌, ◌≤◌, length};
 ghost use Rattle.feed.specs.Buildings.{building_numbers};
 ghost use Rattle.feed.specs.Frames.{Framed, first_note};
+ghost use Rattle.feed.specs.Kinds.{note_length};
+ghost use Rattle.feed.specs.declared.kind.Kind.TheVariants.{Building as BuildingNote};
 ghost use Rattle.feed.specs.Readings.{ReadsBuilding};
 
 use crate::content::{Content, read, sized};
@@ -20,9 +22,8 @@ pub fn read_building(bytes: &[u8]) -> Result<Building, Refusal>
 
 impl Content for Building {
     ghost use Rattle.feed.specs.Buildings.{IsBuilding};
-    ghost use Rattle.feed.specs.declared.kind.Kind.TheVariants.{Building};
 
-    ghost Wanted = { λ kind. kind ≡ Building };
+    ghost Wanted = { λ kind. kind ≡ BuildingNote };
 
     ghost Says = { IsBuilding };
 
@@ -35,7 +36,7 @@ impl Content for Building {
 }
 
 fn numbers(note: &[u8]) -> BuildingNumbers
-    requires { 18 ≤ length note.now }
+    requires { note_length BuildingNote ≤ length note.now }
     ensures { result ≡ building_numbers note.now }
 {
     BuildingNumbers {

@@ -1,16 +1,17 @@
 // An entry as it was sent: none of its numbers is judged here. A measured quantity is kept by its bits, which a floating number would lose.
 ghost use Rattle.std.specs.Prelude.{◌≡◌, ◌≤◌, length, Some};
 ghost use Rattle.feed.specs.declared.kind.Kind.{Kind};
-ghost use Rattle.feed.specs.Entries.{entry_kind, entry_head, kind_quantity, sent_entry};
+ghost use Rattle.feed.specs.Entries.{quantity_at, entry_kind, entry_head, kind_quantity, sent_entry};
 ghost use Rattle.feed.specs.Kinds.{note_length};
 
 use crate::kind::Kind;
 use crate::little::number_at;
+use crate::sent::CONTENT;
 use domain::{Entry, EntryHead, Quantity};
 use std::num::f64_from_bits_with_nan;
 
-// Where the fields of an entry lie, after its number and its revision.
-const ROW: usize = 12;
+// Where the fields of an entry lie.
+const ROW: usize = CONTENT;
 
 const SPAN: usize = ROW + 2;
 
@@ -59,7 +60,7 @@ impl SentQuantity {
 
 // What an entry says before its quantity.
 pub(crate) fn head(note: &[u8]) -> EntryHead
-    requires { 20 ≤ length note.now }
+    requires { quantity_at ≤ length note.now }
     ensures { result ≡ entry_head note.now }
 {
     EntryHead {

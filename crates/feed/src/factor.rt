@@ -2,6 +2,8 @@
 ghost use Rattle.std.specs.Prelude.{◌≡◌, ◌≤◌, length, MatchBool};
 ghost use Rattle.feed.specs.Factors.{factor_row};
 ghost use Rattle.feed.specs.Frames.{Framed, first_note};
+ghost use Rattle.feed.specs.Kinds.{note_length};
+ghost use Rattle.feed.specs.declared.kind.Kind.TheVariants.{Factor as FactorNote};
 ghost use Rattle.feed.specs.Readings.{ReadsFactorRow};
 ghost use Rattle.feed.specs.Rows.{RowFirst};
 
@@ -29,9 +31,8 @@ pub(crate) fn row_is_next(bytes: &[u8]) -> bool
 
 impl Content for FactorRow {
     ghost use Rattle.feed.specs.Factors.{IsFactorRow};
-    ghost use Rattle.feed.specs.declared.kind.Kind.TheVariants.{Factor};
 
-    ghost Wanted = { λ kind. kind ≡ Factor };
+    ghost Wanted = { λ kind. kind ≡ FactorNote };
 
     ghost Says = { IsFactorRow };
 
@@ -48,7 +49,7 @@ impl Content for FactorRow {
 }
 
 fn row(note: &[u8]) -> FactorRow
-    requires { 14 ≤ length note.now }
+    requires { note_length FactorNote ≤ length note.now }
     ensures { result ≡ factor_row note.now }
 {
     FactorRow {

@@ -17,6 +17,9 @@ const NUMBER: usize = FIELDS;
 
 const REVISION: usize = NUMBER + 4;
 
+// What an entry says comes after them.
+pub(crate) const CONTENT: usize = REVISION + 4;
+
 // What is sent under a number, at a revision of it.
 #[derive(Clone, Copy, Debug, PartialEq, Eq)]
 pub struct Sent {

@@ -1,7 +1,5 @@
 // Each refusal of a building, of a factor row and of a note, and each field at the ends of its range and one beyond.
-use domain::{Factor, FactorNumbers};
-use domain::read_building;
-use domain::read_row;
+use domain::{Factor, FactorNumbers, read_building, read_row};
 use feed::frame::Head;
 use feed::note::Note;
 use refusals::Refusal;

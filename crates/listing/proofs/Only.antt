@@ -21,7 +21,7 @@ use Rattle.refusals.proofs.Deciding.{Same, decided_only, untold}
 use Rattle.feed.proofs.Framing.{framed_front, framed_or_not, front_only}
 use Rattle.listing.specs.declared.outcome.Outcome.{Outcome}
 use Rattle.listing.specs.declared.outcome.Outcome.TheVariants.{Booked, Refused, Unbooked}
-use Rattle.listing.specs.Lines.{kind_said, entry_of, RefusedSaid, IsOutcome, outcome_said, IsBooked, booked_said, NoteTold, Said, Tells, Line}
+use Rattle.listing.specs.Lines.{word_of, entry_of, RefusedSaid, IsOutcome, outcome_said, IsBooked, booked_said, NoteTold, Said, Tells, Line}
 use Rattle.listing.specs.Bases.{Basis, unbooked, by, basis_with}
 use Rattle.listing.specs.Listings.{LastLine, Lists, note, last, Listing}
 use Rattle.listing.proofs.Begun.{basis_only}
@@ -32,7 +32,7 @@ names_none bs f least = no_codes f (untold (readable AnyKind bs) lack_number ref
 
 refused_only : (bs : List ℕ) (f g : Refusal) (s t : List ℕ) → refusal_said f ≡ refusal_said g → RefusedSaid bs f s → RefusedSaid bs g t → s ≡ t
 refused_only bs f g s t same a b =
-    ⊎_elim (λ framed. a.note framed ∙ ap (λ x. kind_said (kind_of (note_kind (first_note bs))) ++ (named (codes "kind", note_kind (first_note bs)) ++ (named (codes "length", length (first_note bs)) ++ (codes " " ++ x)))) same ∙ sym (b.note framed))
+    ⊎_elim (λ framed. a.note framed ∙ ap (λ x. word_of (kind_of (note_kind (first_note bs))) ++ (named (codes "kind", note_kind (first_note bs)) ++ (named (codes "length", length (first_note bs)) ++ (codes " " ++ x)))) same ∙ sym (b.note framed))
     (λ unframed. a.unframed unframed ∙ ap (λ x. codes "unframed" ++ (named (codes "left", length bs) ++ (codes " " ++ x))) same ∙ sym (b.unframed unframed))
     (framed_or_not bs)
 

@@ -22,13 +22,13 @@ use Rattle.listing.specs.declared.outcome.Outcome.TheVariants.{Booked, Refused, 
 use Rattle.listing.specs.Bases.{Basis, unbooked, by}
 
 -- the word for a kind, if there is such a kind
-abbrev pub kind_said : Option Kind → List ℕ
-kind_said (Some kind) = kind_word kind
-kind_said None = codes "unknown"
+abbrev pub word_of : Option Kind → List ℕ
+word_of (Some kind) = kind_word kind
+word_of None = codes "unknown"
 
 -- what is said of a note that is refused: its kind, its length, and the refusal
 abbrev pub note_refused : ℕ → ℕ → Refusal → List ℕ
-note_refused k n f = kind_said (kind_of k) ++ (named (codes "kind", k) ++ (named (codes "length", n) ++ (codes " " ++ refusal_said f)))
+note_refused k n f = word_of (kind_of k) ++ (named (codes "kind", k) ++ (named (codes "length", n) ++ (codes " " ++ refusal_said f)))
 
 -- what is said of so many bytes from which no note can be told
 abbrev pub bytes_refused : ℕ → Refusal → List ℕ

@@ -12,7 +12,7 @@ too_long_least feed more = told [] [] (refusal_number FeedTooLong) {P = length f
 
 -- what is longer than a feed may be is refused for that alone
 long_only : (feed other text : List ℕ) → 65536 < length feed → 65536 < length other → Reports feed text → Reports other text
-long_only feed other text more more' (denied (too_long least) is) = denied (too_long (subst (Least (sized other)) (least_only (sized feed) _ _ (too_long_least feed more) least) (too_long_least other more'))) is
+long_only feed other text more more' (denied (too_long least) is) = denied (too_long (subst (Least (sized other)) (least_only (sized feed) (refusal_number FeedTooLong) _ (too_long_least feed more) least) (too_long_least other more'))) is
 long_only feed other text more more' (denied (no_building short reads) is) = absurd (omega (arith, short.0))
 long_only feed other text more more' (denied (row_refused short opens takes) is) = absurd (omega (arith, short.0))
 long_only feed other text more more' (account (project short opens takes) a) = absurd (omega (arith, short.0))

@@ -1,5 +1,5 @@
 -- Gathering the factor rows of a project. Assumes nothing.
-use Rattle.std.proofs.Common.{◌≡◌, ℕ, ◌<◌, List, [], ◌∷◌, ◌++◌, length, Ok, Err, Result, refl, subst}
+use Rattle.std.proofs.Common.{◌≡◌, ℕ, ◌<◌, List, [], ◌∷◌, ◌++◌, length, Ok, Err, Result, sym, refl, subst}
 use Rattle.refusals.specs.declared.refusal.Refusal.{Refusal}
 use Rattle.refusals.specs.declared.refusal.Refusal.TheVariants.{TooManyRows}
 use Rattle.refusals.specs.Refusals.{refusal_number}
@@ -33,22 +33,31 @@ pub record Gathered (notes : List (List ℕ)) (rest : List (Result FactorRow Ref
 pub none_gathered : {notes : List (List ℕ)} {rest : List (Result FactorRow Refusal)} {rows : List FactorRow} → RowsRead notes rest → rows ≡ [] → Gathered notes rest rows
 none_gathered {notes} read empty = record { more = notes; read = read; before = λ end takes. subst (λ rows. TakesRows rows notes end) empty takes }
 
-module _ (notes : List (List ℕ)) (a : Result FactorRow Refusal) (rest : List (Result FactorRow Refusal)) (rows : List FactorRow) where
-  more_gathered : (r : FactorRow) (longer : List FactorRow) (more : List (List ℕ)) → RowsRead more (a ∷ rest) → ((end : Result (List FactorRow) Refusal) → TakesRows rows more end → TakesRows [] notes end) → ((note : List ℕ) → ReadsFactorRow note a → ReadsRow (length rows) note (Ok r)) → longer ≡ rows ++ (r ∷ []) → Gathered notes rest longer
-  more_gathered r longer more (one {note = note} {notes = others} reads read) before own is =
-      record { more = others; read = read; before = λ end takes. before end (row r (own note reads) (subst (λ rs. TakesRows rs others end) is takes)) }
+-- the first of the notes that are still to come
+first_of : {a : Result FactorRow Refusal} {rest : List (Result FactorRow Refusal)} {notes : List (List ℕ)} → RowsRead notes (a ∷ rest) → (note : List ℕ) × (more : List (List ℕ)) × (notes ≡ note ∷ more) × ReadsFactorRow note a × RowsRead more rest
+first_of (one {note = note} {notes = more} reads read) = (note, more, refl, reads, read)
 
-  pub one_gathered : Gathered notes (a ∷ rest) rows → (r : FactorRow) {longer : List FactorRow} → ((note : List ℕ) → ReadsFactorRow note a → ReadsRow (length rows) note (Ok r)) → longer ≡ rows ++ (r ∷ []) → Gathered notes rest longer
-  one_gathered old r {longer} own is = more_gathered r longer old.more old.read old.before own is
+module _ {notes : List (List ℕ)} {a : Result FactorRow Refusal} {rest : List (Result FactorRow Refusal)} {rows : List FactorRow} (old : Gathered notes (a ∷ rest) rows) where
+  -- its row is taken
+  pub one_gathered : (r : FactorRow) {longer : List FactorRow} → ((note : List ℕ) → ReadsFactorRow note a → ReadsRow (length rows) note (Ok r)) → longer ≡ rows ++ (r ∷ []) → Gathered notes rest longer
+  one_gathered r own is =
+      let first = first_of old.read in
+      let reads = own first.0 first.3 in
+      record {
+        more = first.1;
+        read = first.4;
+        before = λ end takes. old.before end (subst (λ ns. TakesRows rows ns end) (sym first.2) (row r reads (subst (λ rs. TakesRows rs first.1 end) is takes)));
+      }
 
-  stopped : (f : Refusal) (more : List (List ℕ)) → RowsRead more (a ∷ rest) → ((end : Result (List FactorRow) Refusal) → TakesRows rows more end → TakesRows [] notes end) → ((note : List ℕ) → ReadsFactorRow note a → ReadsRow (length rows) note (Err f)) → TakesRows [] notes (Err f)
-  stopped f more (one {note = note} reads read) before own = before (Err f) (refused (own note reads))
+  -- or refused
+  pub one_refused : (f : Refusal) → ((note : List ℕ) → ReadsFactorRow note a → ReadsRow (length rows) note (Err f)) → TakesRows [] notes (Err f)
+  one_refused f own =
+      let first = first_of old.read in
+      let reads = own first.0 first.3 in
+      old.before (Err f) (subst (λ ns. TakesRows rows ns (Err f)) (sym first.2) (refused reads))
 
-  pub one_refused : Gathered notes (a ∷ rest) rows → (f : Refusal) → ((note : List ℕ) → ReadsFactorRow note a → ReadsRow (length rows) note (Err f)) → TakesRows [] notes (Err f)
-  one_refused old f own = stopped f old.more old.read old.before own
-
-whole : (notes : List (List ℕ)) (rows : List FactorRow) (more : List (List ℕ)) → RowsRead more [] → ((end : Result (List FactorRow) Refusal) → TakesRows rows more end → TakesRows [] notes end) → TakesRows [] notes (Ok rows)
-whole notes rows more none before = before (Ok rows) all
+none_left : {notes : List (List ℕ)} → RowsRead notes [] → notes ≡ []
+none_left none = refl
 
 pub all_gathered : {notes : List (List ℕ)} {rows : List FactorRow} → Gathered notes [] rows → TakesRows [] notes (Ok rows)
-all_gathered {notes} {rows} old = whole notes rows old.more old.read old.before
+all_gathered {rows = rows} old = old.before (Ok rows) (subst (λ ns. TakesRows rows ns (Ok rows)) (sym (none_left old.read)) all)

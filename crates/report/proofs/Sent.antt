@@ -8,11 +8,11 @@ use Rattle.feed.specs.declared.reader.Part.{Part}
 use Rattle.feed.specs.declared.reader.Reader.{Reader}
 use Rattle.feed.specs.Feeds.{text, left_of, Opened, Hands, IsLeft, Stays}
 use Rattle.feed.specs.Frames.{Framed}
-use Rattle.feed.proofs.Looping.{Sofar, opened, one_more, stays, all}
+use Rattle.feed.proofs.Looping.{Sofar, begun, one_more, stays, all}
 use Rattle.feed.proofs.Running.{hands_note}
 use Rattle.sheet.specs.Accounts.{sendings}
 use Rattle.sheet.specs.Histories.{Run, new, send, sends}
-use Rattle.sheet.specs.States.{State, opened as just_opened}
+use Rattle.sheet.specs.States.{State, opened}
 use Rattle.report.specs.Accounts.{SendsOf, ended, unframed, note, AllSent}
 use Rattle.report.specs.Calls.{said, send_said, SendWritten}
 
@@ -34,9 +34,9 @@ pub record SentSofar (b : BuildingNumbers) (known : Map) (bytes : List ℕ) (r :
   pub places : r.handed ≡ length answered
   pub sofar : Sofar Sendings 1 0 bytes r done
 
-pub none_sent : {b : BuildingNumbers} {known : Map} {bytes : List ℕ} {r : Reader} {s : State} {written : List ℕ} → Opened bytes r → s ≡ just_opened b known → written ≡ [] → SentSofar b known bytes r s written
+pub none_sent : {b : BuildingNumbers} {known : Map} {bytes : List ℕ} {r : Reader} {s : State} {written : List ℕ} → Opened bytes r → s ≡ opened b known → written ≡ [] → SentSofar b known bytes r s written
 none_sent start fresh empty =
-    record { done = []; answered = []; answers = refl; run = rw fresh new; same = empty; places = start.notes; sofar = opened Sendings start refl }
+    record { done = []; answered = []; answers = refl; run = rw fresh new; same = empty; places = start.notes; sofar = begun Sendings start refl }
 
 module _ {b : BuildingNumbers} {known : Map} {bytes : List ℕ} {r : Reader} {s : State} {written : List ℕ} (old : SentSofar b known bytes r s written) where
   -- one part sent, at its place

@@ -1,5 +1,5 @@
 use Rattle.feed.proofs.Ending.{fewer_left}
-use Rattle.feed.proofs.Looping.{opened}
+use Rattle.feed.proofs.Looping.{begun}
 use Rattle.listing.specs.Bases.{basis_of}
 use Rattle.listing.specs.Listings.{Lists, Listing}
 use Rattle.listing.proofs.Turns.{line_more, last_more}
@@ -7,7 +7,7 @@ use Rattle.listing.proofs.Only.{listing_only}
 use Rattle.listing.proofs.whole.listing.Goals as goal
 
 pub loop-part-init : goal.loop-part-init
-loop-part-init c = opened (Lists (basis_of c.in_ok-basis.basis)) c.new-reader.ensures c.new-text.ensures.bytes
+loop-part-init c = begun (Lists (basis_of c.in_ok-basis.basis)) c.new-reader.ensures c.new-text.ensures.bytes
 
 pub loop-part-smaller : goal.loop-part-smaller
 loop-part-smaller c = fewer_left c.in-Some.ensures
