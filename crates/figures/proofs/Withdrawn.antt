@@ -54,8 +54,8 @@ module _ (y : ℕ) (known : Map) (late : Entry) (gone back : List ℕ) (gone_fit
   two = lists y known (lists y known empty gone_fit (omega arith)) back_fit (omega arith)
 
 pub none_counts : NoneCounts 1
-none_counts y known e gone late gone_fit late_fit = roll_counts y known _ _ (two y known e gone late gone_fit late_fit)
+none_counts y known e gone late gone_fit late_fit = roll_counts (two y known e gone late gone_fit late_fit)
 
 pub counts : CountsAt 1 3
 counts y known e new gone late next gone_fit late_fit next_fit =
-    roll_counts y known _ _ (lists y known (two y known e gone late gone_fit late_fit) next_fit (omega arith))
+    roll_counts (lists y known (two y known e gone late gone_fit late_fit) next_fit (omega arith))

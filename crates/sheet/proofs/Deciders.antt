@@ -1,5 +1,5 @@
 -- Which notes of a roll decide: for each of its numbers there is one, and only one. Assumes nothing.
-use Rattle.std.proofs.Common.{◌≡◌, ℕ, ◌<◌, ◌≤◌, ◌⊎◌, List, [], ◌∷◌, ◌++◌, get_or, drop, map, Bool, true, false, if◌then◌else◌, ◌==◌, nat_lt, inl, inr, ⊎_elim, sym, refl, ap, ◌∙◌, subst, arith}
+use Rattle.std.proofs.Common.{◌≡◌, ℕ, ◌<◌, ◌≤◌, ◌⊎◌, List, [], ◌∷◌, ◌++◌, map, Bool, true, false, if◌then◌else◌, ◌==◌, nat_lt, inl, inr, ⊎_elim, sym, refl, ap, ◌∙◌, subst, arith}
 use Rattle.std.specs.List.{AllByRecursion}
 use Rattle.sheet.specs.Notes.{Note}
 use Rattle.sheet.specs.Placing.{Among}
@@ -18,29 +18,31 @@ abbrev pub names : List Note → List ℕ
 names ns = map (λ n. n.number) ns
 
 -- a test, by its two answers
-pub by_test : (P : Bool → Type 0) (t : Bool) → (t ≡ true → P true) → (t ≡ false → P false) → P t
+by_test : (P : Bool → Type 0) (t : Bool) → (t ≡ true → P true) → (t ≡ false → P false) → P t
 by_test P true on off = on refl
 by_test P false on off = off refl
 
-pub same : (j k : ℕ) → (j == k) ≡ true → j ≡ k
-same j k e = grind arith
+-- how a note enters: last, ahead of the one under its number, behind it, or past a first one under another number
+pub data Enters (n : Note) : List Note → List Note → Type 0 where
+  last : Enters n [] (n ∷ [])
+  ahead : {m : Note} {ms : List Note} → m.number ≡ n.number → m.revision < n.revision → Enters n (m ∷ ms) (n ∷ ms)
+  behind : {m : Note} {ms : List Note} → m.number ≡ n.number → n.revision ≤ m.revision → Enters n (m ∷ ms) (m ∷ ms)
+  past : {m : Note} {ms ns : List Note} → (m.number ≡ n.number → ⊥) → Enters n ms ns → Enters n (m ∷ ms) (m ∷ ns)
 
-pub other : (j k : ℕ) → (j == k) ≡ false → j ≡ k → ⊥
-other j k e is = grind arith
+pub enters : (n : Note) (ms : List Note) → Enters n ms (enter n ms)
+enters n [] = last
+enters n (m ∷ ms) =
+    by_test (λ t. Enters n (m ∷ ms) (if t then (if nat_lt m.revision n.revision then n else m) ∷ ms else m ∷ enter n ms)) (m.number == n.number)
+    (λ e. by_test (λ t. Enters n (m ∷ ms) ((if t then n else m) ∷ ms)) (nat_lt m.revision n.revision)
+    (λ l. ahead (grind arith) (grind arith)) (λ l. behind (grind arith) (grind arith)))
+    (λ e. past (λ i. grind arith) (enters n ms))
 
--- ---- what holds of all
-
-all_map : {X : Type 0} (P Q : X → Type 0) → ((x : X) → P x → Q x) → (xs : List X) → AllByRecursion P xs → AllByRecursion Q xs
-all_map P Q f [] a = tt
-all_map P Q f (x ∷ xs) a = (f x a.0, all_map P Q f xs a.1)
-
-all_both : {X : Type 0} (P Q R : X → Type 0) → ((x : X) → P x → Q x → R x) → (xs : List X) → AllByRecursion P xs → AllByRecursion Q xs → AllByRecursion R xs
-all_both P Q R f [] a b = tt
-all_both P Q R f (x ∷ xs) a b = (f x a.0 b.0, all_both P Q R f xs a.1 b.1)
-
-all_at : {X : Type 0} (P : X → Type 0) (l : List X) (x : X) (r : List X) → AllByRecursion P (l ++ (x ∷ r)) → P x
-all_at P [] x r a = a.0
-all_at P (y ∷ l) x r a = all_at P l x r a.1
+-- what holds of all, and of the note that enters
+pub all_enter : (P : Note → Type 0) {n : Note} {ms ns : List Note} → Enters n ms ns → P n → AllByRecursion P ms → AllByRecursion P ns
+all_enter P last p a = (p, tt)
+all_enter P (ahead e l) p a = (p, a.1)
+all_enter P (behind e l) p a = a
+all_enter P (past o r) p a = (a.0, all_enter P r p a.1)
 
 -- ---- the numbers of a roll
 
@@ -54,105 +56,98 @@ names_decide (n ∷ roll) = names_enter n (decide roll) ∙ ap (with_number n.nu
 
 among_own : (k : ℕ) (js : List ℕ) → Among k (with_number k js)
 among_own k [] = inl refl
-among_own k (j ∷ js) = by_test (λ t. Among k (if t then j ∷ js else j ∷ with_number k js)) (j == k) (λ e. inl (same j k e)) (λ e. inr (among_own k js))
+among_own k (j ∷ js) = grind (arith, among_own k js)
 
 among_with : (k n : ℕ) (js : List ℕ) → Among k js → Among k (with_number n js)
 among_with k n [] a = absurd a
-among_with k n (j ∷ js) a = by_test (λ t. Among k (if t then j ∷ js else j ∷ with_number n js)) (j == n) (λ e. a) (λ e. ⊎_elim (λ h. inl h) (λ h. inr (among_with k n js h)) a)
+among_with k n (j ∷ js) a = grind (arith, among_with k n js)
 
-among_either : (k n : ℕ) (js : List ℕ) → Among k (with_number n js) → (n ≡ k) ⊎ Among k js
-among_either k n [] a = a
-among_either k n (j ∷ js) a =
-    by_test (λ t. Among k (if t then j ∷ js else j ∷ with_number n js) → (n ≡ k) ⊎ Among k (j ∷ js)) (j == n)
-    (λ e b. inr b)
-    (λ e b. ⊎_elim (λ h. inr (inl h)) (λ h. ⊎_elim (λ i. inl i) (λ i. inr (inr i)) (among_either k n js h)) b)
-    a
+-- a note's revision is less than r, at most r, or is not r, if its number is k
+abbrev Below : ℕ → ℕ → Note → Type 0
+Below k r x = x.number ≡ k → x.revision < r
 
--- each note's number is among the numbers
-covered : (roll : List Note) → AllByRecursion (λ m. Among m.number (numbers roll)) roll
-covered [] = tt
-covered (n ∷ roll) = (among_own n.number (numbers roll), all_map (λ m. Among m.number (numbers roll)) (λ m. Among m.number (numbers (n ∷ roll))) (λ m a. among_with m.number n.number (numbers roll) a) roll (covered roll))
+abbrev AtMost : ℕ → ℕ → Note → Type 0
+AtMost k r x = x.number ≡ k → x.revision ≤ r
+
+abbrev NotSame : ℕ → ℕ → Note → Type 0
+NotSame k r x = x.number ≡ k → x.revision ≡ r → ⊥
+
+-- no note has a number that is not listed
+unlisted : (k r : ℕ) (roll : List Note) → (Among k (numbers roll) → ⊥) → AllByRecursion (Below k r) roll
+unlisted k r [] o = tt
+unlisted k r (n ∷ roll) o = (
+  λ e. absurd (o (subst (λ j. Among j (numbers (n ∷ roll))) e (among_own n.number (numbers roll)))),
+  unlisted k r roll (λ a. o (among_with k n.number (numbers roll) a)),
+)
 
 -- no two of the notes have one number
 abbrev Distinct : List Note → Type 0
 Distinct [] = Unit {0}
 Distinct (m ∷ ms) = (Among m.number (names ms) → ⊥) × Distinct ms
 
-distinct_enter : (n : Note) (ns : List Note) → Distinct ns → Distinct (enter n ns)
-distinct_enter n [] d = ((λ a. a), tt)
-distinct_enter n (m ∷ ms) d =
-    by_test (λ t. Distinct (if t then (if nat_lt m.revision n.revision then n else m) ∷ ms else m ∷ enter n ms)) (m.number == n.number)
-    (λ e. by_test (λ t. Distinct ((if t then n else m) ∷ ms)) (nat_lt m.revision n.revision)
-    (λ l. ((λ a. d.0 (subst (λ k. Among k (names ms)) (sym (same m.number n.number e)) a)), d.1)) (λ l. d))
-    (λ e. ((λ a. ⊎_elim (λ h. other m.number n.number e (sym h)) d.0 (among_either m.number n.number (names ms) (subst (Among m.number) (names_enter n ms) a))), distinct_enter n ms d.1))
+among_entered : {n : Note} {ms ns : List Note} {k : ℕ} → Enters n ms ns → Among k (names ns) → (n.number ≡ k) ⊎ Among k (names ms)
+among_entered last a = a
+among_entered (ahead e l) a = ⊎_elim inl (λ h. inr (inr h)) a
+among_entered (behind e l) a = inr a
+among_entered (past o r) (inl h) = inr (inl h)
+among_entered (past o r) (inr h) = ⊎_elim inl (λ i. inr (inr i)) (among_entered r h)
+
+distinct_enter : {n : Note} {ms ns : List Note} → Enters n ms ns → Distinct ms → Distinct ns
+distinct_enter last d = ((λ a. a), tt)
+distinct_enter (ahead {ms = ms} e l) d = ((λ a. d.0 (subst (λ k. Among k (names ms)) (sym e) a)), d.1)
+distinct_enter (behind e l) d = d
+distinct_enter (past o r) d = ((λ a. ⊎_elim (λ h. o (sym h)) d.0 (among_entered r a)), distinct_enter r d.1)
 
 distinct_decide : (roll : List Note) → Distinct (decide roll)
 distinct_decide [] = tt
-distinct_decide (n ∷ roll) = distinct_enter n (decide roll) (distinct_decide roll)
-
-others : (k : ℕ) (ms : List Note) → (Among k (names ms) → ⊥) → AllByRecursion (λ m. m.number ≡ k → ⊥) ms
-others k [] a = tt
-others k (m ∷ ms) a = ((λ e. a (inl e)), others k ms (λ h. a (inr h)))
+distinct_decide (n ∷ roll) = distinct_enter (enters n (decide roll)) (distinct_decide roll)
 
 -- ---- one note more
 
+all_map : {X : Type 0} (P Q : X → Type 0) → ((x : X) → P x → Q x) → (xs : List X) → AllByRecursion P xs → AllByRecursion Q xs
+all_map P Q f [] a = tt
+all_map P Q f (x ∷ xs) a = (f x a.0, all_map P Q f xs a.1)
+
+-- a note decides for its own number
+abbrev DecidesIn : List Note → Note → Type 0
+DecidesIn roll m = Decides roll m.number m
+
 module _ (n : Note) (roll : List Note) where
-  abbrev DecidesNow : Note → Type 0
-  DecidesNow m = Decides (n ∷ roll) m.number m
-
-  abbrev Decided : Note → Type 0
-  Decided m = Decides roll m.number m
-
   -- a note goes on deciding where no higher revision comes
-  keeps : (m : Note) → Decided m → (n.number ≡ m.number → n.revision ≤ m.revision) → DecidesNow m
-  keeps m d h = record { later = n ∷ d.later; earlier = d.earlier; found = ap (λ ms. n ∷ ms) d.found; named = refl; highest = (h, d.highest); first = d.first }
+  keeps : {m : Note} → DecidesIn roll m → (n.number ≡ m.number → n.revision ≤ m.revision) → DecidesIn (n ∷ roll) m
+  keeps d h = record { later = n ∷ d.later; earlier = d.earlier; found = ap (λ ms. n ∷ ms) d.found; named = refl; highest = (h, d.highest); first = d.first }
 
-  -- the new note decides where it is of a higher revision
-  takes : (m : Note) → Decided m → m.number ≡ n.number → m.revision < n.revision → DecidesNow n
-  takes m d e l =
-      record {
-        later = [];
-        earlier = roll;
-        found = refl;
-        named = refl;
-        highest = ((λ h. omega arith), all_map (λ x. x.number ≡ m.number → x.revision ≤ m.revision) (λ x. x.number ≡ n.number → x.revision ≤ n.revision) (λ x h i. let j = h (i ∙ sym e) in omega arith) roll d.highest);
-        first = all_map (λ x. x.number ≡ m.number → x.revision ≤ m.revision) (λ x. x.number ≡ n.number → x.revision ≡ n.revision → ⊥) (λ x h i r. let j = h (i ∙ sym e) in omega arith) roll d.highest;
-      }
+  keep : (ms : List Note) → AllByRecursion (DecidesIn roll) ms → (Among n.number (names ms) → ⊥) → AllByRecursion (DecidesIn (n ∷ roll)) ms
+  keep [] a o = tt
+  keep (m ∷ ms) a o = (keeps a.0 (λ i. absurd (o (inl (sym i)))), keep ms a.1 (λ h. o (inr h)))
 
-  -- or where no other is listed under its number
-  alone : AllByRecursion (λ x. x.number ≡ n.number → ⊥) roll → DecidesNow n
-  alone a =
-      record {
-        later = [];
-        earlier = roll;
-        found = refl;
-        named = refl;
-        highest = ((λ h. omega arith), all_map (λ x. x.number ≡ n.number → ⊥) (λ x. x.number ≡ n.number → x.revision ≤ n.revision) (λ x h i. absurd (h i)) roll a);
-        first = all_map (λ x. x.number ≡ n.number → ⊥) (λ x. x.number ≡ n.number → x.revision ≡ n.revision → ⊥) (λ x h i r. h i) roll a;
-      }
+  -- the new note decides where those under its number have lower revisions
+  takes : AllByRecursion (Below n.number n.revision) roll → DecidesIn (n ∷ roll) n
+  takes lower = record {
+    later = [];
+    earlier = roll;
+    found = refl;
+    named = refl;
+    highest = ((λ h. omega arith), all_map (Below n.number n.revision) (AtMost n.number n.revision) (λ x h i. let j = h i in omega arith) roll lower);
+    first = all_map (Below n.number n.revision) (NotSame n.number n.revision) (λ x h i r. let j = h i in omega arith) roll lower;
+  }
 
-  decides_enter : (ms : List Note) → AllByRecursion Decided ms → Distinct ms → AllByRecursion (λ x. x.number ≡ n.number → Among n.number (names ms)) roll → AllByRecursion DecidesNow (enter n ms)
-  decides_enter [] a d c = (alone c, tt)
-  decides_enter (m ∷ ms) a d c =
-      by_test (λ t. AllByRecursion DecidesNow (if t then (if nat_lt m.revision n.revision then n else m) ∷ ms else m ∷ enter n ms)) (m.number == n.number)
-      (λ e.
-      let is = same m.number n.number e in
-      let rest = all_both Decided (λ x. x.number ≡ m.number → ⊥) DecidesNow (λ x h o. keeps x h (λ i. absurd (o (sym i ∙ sym is)))) ms a.1 (others m.number ms d.0) in
-      by_test (λ t. AllByRecursion DecidesNow ((if t then n else m) ∷ ms)) (nat_lt m.revision n.revision)
-      (λ l. (takes m a.0 is (grind arith), rest))
-      (λ l. (keeps m a.0 (λ i. grind arith), rest)))
-      (λ e. (
-        keeps m a.0 (λ i. absurd (other m.number n.number e (sym i))),
-        decides_enter ms a.1 d.1 (all_map (λ x. x.number ≡ n.number → Among n.number (names (m ∷ ms))) (λ x. x.number ≡ n.number → Among n.number (names ms)) (λ x h i. ⊎_elim (λ j. absurd (other m.number n.number e j)) (λ j. j) (h i)) roll c),
-      ))
+  lower : {m : Note} → DecidesIn roll m → m.number ≡ n.number → m.revision < n.revision → AllByRecursion (Below n.number n.revision) roll
+  lower {m} d e l = all_map (AtMost m.number m.revision) (Below n.number n.revision) (λ x h i. let j = h (i ∙ sym e) in omega arith) roll d.highest
 
-decides_all : (roll : List Note) → AllByRecursion (λ m. Decides roll m.number m) (decide roll)
+  decides_enter : {ms ns : List Note} → Enters n ms ns → AllByRecursion (DecidesIn roll) ms → Distinct ms → ((Among n.number (names ms) → ⊥) → AllByRecursion (Below n.number n.revision) roll) → AllByRecursion (DecidesIn (n ∷ roll)) ns
+  decides_enter last a d c = (takes (c (λ x. x)), tt)
+  decides_enter (ahead {ms = ms} e l) a d c = (takes (lower a.0 e l), keep ms a.1 (λ h. d.0 (subst (λ k. Among k (names ms)) (sym e) h)))
+  decides_enter (behind {ms = ms} e l) a d c = (keeps a.0 (λ i. l), keep ms a.1 (λ h. d.0 (subst (λ k. Among k (names ms)) (sym e) h)))
+  decides_enter (past o r) a d c = (keeps a.0 (λ i. absurd (o (sym i))), decides_enter r a.1 d.1 (λ p. c (⊎_elim o p)))
+
+decides_all : (roll : List Note) → AllByRecursion (DecidesIn roll) (decide roll)
 decides_all [] = tt
 decides_all (n ∷ roll) =
-    decides_enter n roll (decide roll) (decides_all roll) (distinct_decide roll)
-    (all_map (λ x. Among x.number (numbers roll)) (λ x. x.number ≡ n.number → Among n.number (names (decide roll))) (λ x a i. subst (Among n.number) (sym (names_decide roll)) (subst (λ k. Among k (numbers roll)) i a)) roll (covered roll))
+    decides_enter n roll (enters n (decide roll)) (decides_all roll) (distinct_decide roll)
+    (λ o. unlisted n.number n.revision roll (λ a. o (subst (Among n.number) (sym (names_decide roll)) a)))
 
-deciding_of : (roll ns : List Note) → AllByRecursion (λ m. Decides roll m.number m) ns → Deciding roll (names ns) ns
+deciding_of : (roll ns : List Note) → AllByRecursion (DecidesIn roll) ns → Deciding roll (names ns) ns
 deciding_of roll [] a = none
 deciding_of roll (n ∷ ns) a = one a.0 (deciding_of roll ns a.1)
 
@@ -162,22 +157,31 @@ deciding roll = subst (λ ks. Deciding roll ks (decide roll)) (names_decide roll
 
 -- ---- only one note decides
 
-cons_head : {X : Type 0} {x y : X} {xs ys : List X} → x ∷ xs ≡ y ∷ ys → x ≡ y
-cons_head {x = x} e = ap (λ l. get_or l 0 x) e
+-- x stands in a list, and P holds of all that stand after it
+data Stands {X : Type 0} (P : X → Type 0) (x : X) : List X → Type 0 where
+  here : {xs : List X} → AllByRecursion P xs → Stands P x (x ∷ xs)
+  there : {y : X} {xs : List X} → Stands P x xs → Stands P x (y ∷ xs)
 
-cons_tail : {X : Type 0} {x y : X} {xs ys : List X} → x ∷ xs ≡ y ∷ ys → xs ≡ ys
-cons_tail e = ap (drop 1) e
+stands : {X : Type 0} {P : X → Type 0} {x : X} (l r : List X) → AllByRecursion P r → Stands P x (l ++ (x ∷ r))
+stands [] r a = here a
+stands (y ∷ l) r a = there (stands l r a)
 
--- a list that is cut at two of its elements is cut at one and the same, or one of them stands after the other
-cut : {X : Type 0} (Q R : X → Type 0) (l l' : List X) (x x' : X) (r r' : List X) → l ++ (x ∷ r) ≡ l' ++ (x' ∷ r') → AllByRecursion Q r' → AllByRecursion R r → (x ≡ x') ⊎ (Q x ⊎ R x')
-cut Q R [] [] x x' r r' e a b = inl (cons_head e)
-cut Q R [] (y ∷ l') x x' r r' e a b = inr (inr (all_at R l' x' r' (subst (AllByRecursion R) (cons_tail e) b)))
-cut Q R (y ∷ l) [] x x' r r' e a b = inr (inl (all_at Q l x r (subst (AllByRecursion Q) (sym (cons_tail e)) a)))
-cut Q R (y ∷ l) (y' ∷ l') x x' r r' e a b = cut Q R l l' x x' r r' (cons_tail e) a b
+holds_at : {X : Type 0} {P : X → Type 0} {x : X} {xs : List X} (Q : X → Type 0) → Stands P x xs → AllByRecursion Q xs → Q x
+holds_at Q (here p) a = a.0
+holds_at Q (there s) a = holds_at Q s a.1
 
-pub decides_one : (roll : List Note) (k : ℕ) (m n : Note) → Decides roll k m → Decides roll k n → m ≡ n
-decides_one roll k m n a b =
-    let m_least = all_at (λ x. x.number ≡ k → x.revision ≤ n.revision) a.later m a.earlier (subst (AllByRecursion (λ x. x.number ≡ k → x.revision ≤ n.revision)) a.found b.highest) a.named in
-    let n_least = all_at (λ x. x.number ≡ k → x.revision ≤ m.revision) b.later n b.earlier (subst (AllByRecursion (λ x. x.number ≡ k → x.revision ≤ m.revision)) b.found a.highest) b.named in
-    ⊎_elim (λ e. e) (λ h. ⊎_elim (λ q. absurd (q a.named (omega arith))) (λ r. absurd (r b.named (omega arith))) h)
-    (cut (λ x. x.number ≡ k → x.revision ≡ n.revision → ⊥) (λ x. x.number ≡ k → x.revision ≡ m.revision → ⊥) a.later b.later m n a.earlier b.earlier (sym a.found ∙ b.found) b.first a.first)
+-- of two that stand in a list, one stands after the other, or they are one
+one_after : {X : Type 0} {P Q : X → Type 0} {x y : X} {xs : List X} → Stands P x xs → Stands Q y xs → (x ≡ y) ⊎ (Q x ⊎ P y)
+one_after (here p) (here q) = inl refl
+one_after {P = P} (here p) (there t) = inr (inr (holds_at P t p))
+one_after {Q = Q} (there s) (here q) = inr (inl (holds_at Q s q))
+one_after (there s) (there t) = one_after s t
+
+decider_stands : {roll : List Note} {k : ℕ} {n : Note} → Decides roll k n → Stands (NotSame k n.revision) n roll
+decider_stands {k = k} {n} d = subst (Stands (NotSame k n.revision) n) (sym d.found) (stands d.later d.earlier d.first)
+
+pub decides_one : {roll : List Note} {k : ℕ} {m n : Note} → Decides roll k m → Decides roll k n → m ≡ n
+decides_one {k = k} {m} {n} a b =
+    let m_most = holds_at (AtMost k n.revision) (decider_stands a) b.highest a.named in
+    let n_most = holds_at (AtMost k m.revision) (decider_stands b) a.highest b.named in
+    ⊎_elim (λ e. e) (⊎_elim (λ h. absurd (h a.named (omega arith))) (λ h. absurd (h b.named (omega arith)))) (one_after (decider_stands a) (decider_stands b))

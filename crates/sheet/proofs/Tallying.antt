@@ -1,41 +1,93 @@
--- Adding up the lines of a book, row by row. Assumes nothing.
-use Rattle.std.proofs.Common.{◌≡◌, ℕ, ◌+◌, ◌-◌, ◌*◌, ◌<◌, ◌≤◌, List, [], ◌∷◌, ◌++◌, length, get_or, set, drop, replicate, map, sum_by, sum, Some, None, Option, Bool, true, false, ℤ, pos, ◌+ℤ◌, unsigned_abs, refl, ap, ◌∙◌, subst, arith, length-set, FitsSigned, w64, to_z, of_z}
+-- Adding up the lines of places, row by row. Assumes nothing.
+use Rattle.std.proofs.Common.{◌≡◌, ℕ, ◌+◌, ◌-◌, ◌*◌, ◌<◌, ◌≤◌, List, [], ◌∷◌, ◌++◌, length, get_or, set, drop, replicate, map, sum_by, sum, Some, None, Option, Bool, true, false, ℤ, pos, ◌+ℤ◌, unsigned_abs, refl, sym, ap, ◌∙◌, subst, arith, length-set, FitsSigned, w64, to_z, of_z}
 use Rattle.std.proofs.lemmas.Int.{ints}
-use Rattle.std.proofs.lemmas.List.{drop_more}
+use Rattle.std.proofs.lemmas.List.{drop_more, drop_all}
 use Rattle.std.specs.Option.{option_to_list}
 use Rattle.booking.specs.declared.row.Row.{Row}
-use Rattle.booking.specs.Booked.{Booked}
+use Rattle.booking.specs.declared.line.Line.{Line}
+use Rattle.booking.specs.Booked.{Booked, line_numbers}
 use Rattle.booking.specs.Rows.{RowRange, row_number, subtracted}
 use Rattle.booking.specs.Weights.{signed_grams}
 use Rattle.totals.specs.Sizes.{most_size}
-use Rattle.totals.specs.Sums.{sum_in, grams_in, count_in, numbered}
-use Rattle.totals.proofs.Adding.{whole, natural, first, part, added, nothing, sizes_added, size_most, counts_added, light_fits, light_kept}
-use Rattle.sheet.specs.declared.book.Book.{Book}
+use Rattle.totals.specs.Sums.{sum_in, numbered}
+use Rattle.totals.proofs.Adding.{Adds, whole, natural, first, part, added, nothing, sums_in, sizes_added, size_most, counts_added, light_fits, light_kept}
 use Rattle.sheet.specs.declared.place.Place.{Place}
-use Rattle.sheet.specs.Lines.{row_grams, row_count, in_range, lines}
-use Rattle.sheet.specs.Places.{Taken, taken_by, in_use, taken}
+use Rattle.sheet.specs.Lines.{row_grams, row_count, in_range, lines, sums_of_lines}
+use Rattle.sheet.specs.Places.{taken_by}
+use Rattle.sheet.proofs.Places.{empty}
 
-pub row_range : (row : Row) → RowRange (row_number row)
-row_range row = grind arith
+-- in any choice of rows, what stands in the rows and what is left to add come to what all comes to
+pub record ComesTo {X : Type 0} (none : X) (plus : X → X → X) (rows : List X) (left all : List (ℕ × X)) : Type 0 where
+  pub comes : (choice : ℕ → Bool) → plus (sum_in none plus choice (numbered 1 rows)) (sum_in none plus choice left) ≡ sum_in none plus choice all
 
--- the rows with what they come to, when rest of the places that are held is still to be added
-pub record Tallied (held rest : List Taken) (gs : List ℤ) (ns : List ℕ) : Type 0 where
-  pub grams : (choice : ℕ → Bool) → grams_in choice (numbered 1 gs) +ℤ grams_in choice (map row_grams (lines rest)) ≡ grams_in choice (map row_grams (lines held))
-  pub counts : (choice : ℕ → Bool) → count_in choice (numbered 1 ns) + count_in choice (map row_count (lines rest)) ≡ count_in choice (map row_count (lines held))
-  pub light : sum_by unsigned_abs gs + 100000000000000 * length rest ≤ 100000000000000 * length held
-  pub few : sum ns + length rest ≤ length held
-  pub grams_places : length gs ≡ 22
-  pub counts_places : length ns ≡ 22
+module _ {X : Type 0} {none : X} {plus : X → X → X} (laws : Adds none plus) where
+  none_added : (n : ℕ) (all : List (ℕ × X)) → ComesTo none plus (replicate n none) all all
+  none_added n all = record { comes = λ choice. ap (λ z. plus z (sum_in none plus choice all)) (nothing laws choice 1 n) ∙ laws.with_none _ }
 
-pub none_tallied : (held : List Taken) → Tallied held held (replicate 22 (pos 0)) (replicate 22 0)
-none_tallied held = record {
-  grams = λ choice. ap (λ z. z +ℤ grams_in choice (map row_grams (lines held))) (nothing whole choice 1 22) ∙ omega (arith, ints);
-  counts = λ choice. ap (λ n. n + count_in choice (map row_count (lines held))) (nothing natural choice 1 22) ∙ omega arith;
+  one_added : {rows : List X} {left all : List (ℕ × X)} {row : ℕ} {x : X} (at : ℕ) → ComesTo none plus rows ((row, x) ∷ left) all → 1 + at ≡ row → at < length rows → ComesTo none plus (set rows at (plus (get_or rows at none) x)) left all
+  one_added {rows} {left} {row = row} {x = x} at h is within =
+      record {
+        comes = λ choice.
+            let rest = sum_in none plus choice left in
+            let so_far = sum_in none plus choice (numbered 1 rows) in
+            ap (λ z. plus z rest) (added laws choice 1 rows at none x within ∙ ap (λ k. plus so_far (part none choice k x)) is)
+            ∙ laws.apart so_far (part none choice row x) rest
+            ∙ ap (plus so_far) (sym (first laws choice row x left))
+            ∙ h.comes choice;
+      }
+
+  all_added : {rows : List X} {all : List (ℕ × X)} → ComesTo none plus rows [] all → (choice : ℕ → Bool) → sum_in none plus choice (numbered 1 rows) ≡ sum_in none plus choice all
+  unfolding sum_in
+  all_added h choice = sym (laws.order _ none ∙ laws.with_none _) ∙ h.comes choice
+
+-- the rows with what they come to, when these lines of the places are left to add
+pub record Adding (places : List Place) (left : List Booked) (grams : List ℤ) (counts : List ℕ) : Type 0 where
+  pub weighed : ComesTo (pos 0) ◌+ℤ◌ grams (map row_grams left) (map row_grams (lines (map taken_by places)))
+  pub counted : ComesTo 0 ◌+◌ counts (map row_count left) (map row_count (lines (map taken_by places)))
+
+-- the lines of the places from i on
+abbrev pub lines_from : List Place → ℕ → List Booked
+lines_from places i = lines (map taken_by (drop i places))
+
+-- the rows when the lines of the first i places are added
+pub record Tallied (places : List Place) (i : ℕ) (grams : List ℤ) (counts : List ℕ) : Type 0 where
+  pub sums : Adding places (lines_from places i) grams counts
+  pub light : sum_by unsigned_abs grams ≤ 100000000000000 * i
+  pub few : sum counts ≤ i
+  pub grams_rows : length grams ≡ 22
+  pub counts_rows : length counts ≡ 22
+
+pub none_tallied : (places : List Place) → Tallied places 0 (replicate 22 (pos 0)) (replicate 22 0)
+none_tallied places = record {
+  sums = record { weighed = none_added whole 22 (map row_grams (lines_from places 0)); counted = none_added natural 22 (map row_count (lines_from places 0)) };
   light = omega arith;
   few = omega arith;
-  grams_places = refl;
-  counts_places = refl;
+  grams_rows = refl;
+  counts_rows = refl;
 }
+
+pub all_tallied : {places : List Place} {i : ℕ} {grams : List ℤ} {counts : List ℕ} → Tallied places i grams counts → length places ≤ i → sums_in (numbered 1 grams) (numbered 1 counts) ≡ sums_of_lines (lines (map taken_by places))
+all_tallied {places} {i} {grams} {counts} h end =
+    let none_left : lines_from places i ≡ [] = ap (λ ps. lines (map taken_by ps)) (drop_all i places end) in
+    let sums = subst (λ left. Adding places left grams counts) none_left h.sums in
+    (λ i. record { grams = λ choice. all_added whole sums.weighed choice i; counts = λ choice. all_added natural sums.counted choice i })
+
+-- a place's line as it is added: to a row by its index, in grams as they count
+pub record Added (place : Place) (row : ℕ) (grams : ℤ) : Type 0 where
+  pub line : Booked
+  pub is : in_range (taken_by place).line ≡ Some line
+  pub in_row : RowRange line.row
+  pub at : 1 + row ≡ line.row
+  pub counts_as : grams ≡ (row_grams line).1
+
+row_range : (row : Row) → RowRange (row_number row)
+row_range row = grind arith
+
+-- as the code tells of it
+pub as_added : {place : Place} {row : ℕ} {grams : ℤ} (line : Line) → Some (line_numbers line) ≡ in_range (taken_by place).line → row ≡ row_number line.row - 1 → grams ≡ signed_grams (subtracted (row_number line.row)) line.grams → Added place row grams
+as_added line is at counts_as =
+    let range = row_range line.row in
+    record { line = line_numbers line; is = sym is; in_row = range; at = omega (arith, range, at); counts_as = counts_as }
 
 size_signed : (t : Bool) (g : ℕ) → unsigned_abs (signed_grams t g) ≡ g
 size_signed true g = omega (arith, ints)
@@ -49,82 +101,46 @@ grams_in_range (Some m) l e = grind arith
 abbrev pub sum_of : ℤ → ℤ → ℤ
 sum_of a b = to_z w64 (of_z w64 a) +ℤ to_z w64 (of_z w64 b)
 
-module _ (held : List Taken) (t : Taken) (rest : List Taken) (gs : List ℤ) (ns : List ℕ) (h : Tallied held (t ∷ rest) gs ns) where
+module _ {places : List Place} {i : ℕ} {gs : List ℤ} {ns : List ℕ} (h : Tallied places i gs ns) (more : i < length places) where
+  -- of what is left, the line of the next place comes first, if it has one
+  next : {line : Option Booked} → in_range (taken_by (get_or places i empty)).line ≡ line → Adding places (option_to_list line ++ lines_from places (i + 1)) gs ns
+  next is = subst (λ left. Adding places left gs ns) (ap (λ ps. lines (map taken_by ps)) (drop_more places i empty more) ∙ ap (λ line. option_to_list line ++ lines_from places (i + 1)) is) h.sums
+
   -- a place without a line
-  pub passed : in_range t.line ≡ None → Tallied held rest gs ns
-  passed e =
-      let f : lines (t ∷ rest) ≡ lines rest = ap (λ o. option_to_list o ++ lines rest) e in
-      record {
-        grams = λ choice. subst (λ ls. grams_in choice (numbered 1 gs) +ℤ grams_in choice (map row_grams ls) ≡ grams_in choice (map row_grams (lines held))) f (h.grams choice);
-        counts = λ choice. subst (λ ls. count_in choice (numbered 1 ns) + count_in choice (map row_count ls) ≡ count_in choice (map row_count (lines held))) f (h.counts choice);
-        light = omega (arith, h.light);
-        few = omega (arith, h.few);
-        grams_places = h.grams_places;
-        counts_places = h.counts_places;
-      }
+  pub passed : in_range (taken_by (get_or places i empty)).line ≡ None → Tallied places (i + 1) gs ns
+  passed none = record { sums = next none; light = omega (arith, h.light); few = omega (arith, h.few); grams_rows = h.grams_rows; counts_rows = h.counts_rows }
 
-  module _ (l : Booked) (e : in_range t.line ≡ Some l) (range : RowRange l.row) (d : ℤ) (c : ℕ) where
-    abbrev at : ℕ
-    at = l.row - 1
+  module _ (few : length places ≤ 512) {row : ℕ} {grams : ℤ} (a : Added (get_or places i empty) row grams) where
+    size : unsigned_abs grams ≤ 100000000000000
+    size = rw a.counts_as (omega (arith, size_signed (subtracted a.line.row) a.line.grams, grams_in_range (taken_by (get_or places i empty)).line a.line a.is))
 
-    abbrev grams : ℤ
-    grams = (row_grams l).1
+    within_grams : row < length gs
+    within_grams = omega (arith, h.grams_rows, a.at, a.in_row)
 
-    more : lines (t ∷ rest) ≡ l ∷ lines rest
-    more = ap (λ o. option_to_list o ++ lines rest) e
+    within_counts : row < length ns
+    within_counts = omega (arith, h.counts_rows, a.at, a.in_row)
 
-    row_is : 1 + at ≡ l.row
-    row_is = omega (arith, range.0)
+    light_sum : unsigned_abs (get_or gs row (pos 0)) + unsigned_abs grams ≤ most_size
+    light_sum = omega (arith, size_most gs row (pos 0) within_grams, h.light, size)
 
-    more_grams : (choice : ℕ → Bool) → grams_in choice (numbered 1 (set gs at (get_or gs at d +ℤ grams))) +ℤ grams_in choice (map row_grams (lines rest)) ≡ grams_in choice (map row_grams (lines held))
-    more_grams choice =
-        let sum = subst (λ row. grams_in choice (numbered 1 (set gs at (get_or gs at d +ℤ grams))) ≡ grams_in choice (numbered 1 gs) +ℤ part (pos 0) choice row grams) row_is (added whole choice 1 gs at d grams (omega (arith, range, h.grams_places))) in
-        let head = first whole choice l.row grams (map row_grams (lines rest)) in
-        let all = subst (λ ls. grams_in choice (numbered 1 gs) +ℤ grams_in choice (map row_grams ls) ≡ grams_in choice (map row_grams (lines held))) more (h.grams choice) in
-        omega (arith, ints, sum, head, all)
-
-    more_counts : (choice : ℕ → Bool) → count_in choice (numbered 1 (set ns at (get_or ns at c + 1))) + count_in choice (map row_count (lines rest)) ≡ count_in choice (map row_count (lines held))
-    more_counts choice =
-        let sum = subst (λ row. count_in choice (numbered 1 (set ns at (get_or ns at c + 1))) ≡ count_in choice (numbered 1 ns) + part 0 choice row 1) row_is (added natural choice 1 ns at c 1 (omega (arith, range, h.counts_places))) in
-        let head = first natural choice l.row 1 (map row_count (lines rest)) in
-        let all = subst (λ ls. count_in choice (numbered 1 ns) + count_in choice (map row_count ls) ≡ count_in choice (map row_count (lines held))) more (h.counts choice) in
-        omega (arith, sum, head, all)
+    pub sum_fits : FitsSigned w64 (sum_of (get_or gs row (pos 0)) grams)
+    sum_fits = light_fits (get_or gs row (pos 0)) grams light_sum
 
     -- a place with a line
-    pub tallied : Tallied held rest (set gs at (get_or gs at d +ℤ grams)) (set ns at (get_or ns at c + 1))
-    tallied =
-        let size = size_signed (subtracted l.row) l.grams in
-        let most = grams_in_range t.line l e in
-        record {
-          grams = more_grams;
-          counts = more_counts;
-          light = omega (arith, sizes_added gs at d grams (omega (arith, range, h.grams_places)), size, most, h.light);
-          few = omega (arith, h.few, counts_added ns at c 1 (omega (arith, range, h.counts_places)));
-          grams_places = length-set gs at _ ∙ h.grams_places;
-          counts_places = length-set ns at _ ∙ h.counts_places;
-        }
+    tallied : Tallied places (i + 1) (set gs row (get_or gs row (pos 0) +ℤ grams)) (set ns row (get_or ns row 0 + 1))
+    tallied = record {
+      sums = record {
+        weighed = one_added whole row (rw a.counts_as (next a.is).weighed) a.at within_grams;
+        counted = one_added natural row (next a.is).counted a.at within_counts;
+      };
+      light = omega (arith, sizes_added gs row (pos 0) grams within_grams, size, h.light);
+      few = omega (arith, h.few, counts_added ns row 0 1 within_counts);
+      grams_rows = length-set gs row _ ∙ h.grams_rows;
+      counts_rows = length-set ns row _ ∙ h.counts_rows;
+    }
 
-    module _ (few : length held ≤ 512) (r : ℕ) (r_is : r ≡ at) (s : ℤ) (s_is : s ≡ grams) where
-      light_sum : unsigned_abs (get_or gs at d) + unsigned_abs grams ≤ most_size
-      light_sum = omega (arith, size_most gs at d (omega (arith, range, h.grams_places)), h.light, few, size_signed (subtracted l.row) l.grams, grams_in_range t.line l e)
-
-      pub sum_fits : FitsSigned w64 (sum_of (get_or gs r d) s)
-      sum_fits = rw (r_is, s_is) (light_fits (get_or gs at d) grams light_sum)
-
-      -- and as the code adds it
-      pub added_line : (gs' : List ℤ) (ns' : List ℕ) → gs' ≡ set gs r (to_z w64 (of_z w64 (sum_of (get_or gs r d) s))) → ns' ≡ set ns r (get_or ns r c + 1) → Tallied held rest gs' ns'
-      added_line gs' ns' p q =
-          let g : gs' ≡ set gs at (get_or gs at d +ℤ grams) = p ∙ (λ i. set gs (r_is i) (to_z w64 (of_z w64 (sum_of (get_or gs (r_is i) d) (s_is i))))) ∙ ap (set gs at) (light_kept (get_or gs at d) grams light_sum) in
-          let n : ns' ≡ set ns at (get_or ns at c + 1) = q ∙ (λ i. set ns (r_is i) (get_or ns (r_is i) c + 1)) in
-          rw (g, n) tallied
-
--- the first place that is still to be added
-pub next : (book : Book) (ps : List Place) (i : ℕ) (d : Place) (gs : List ℤ) (ns : List ℕ) → ps ≡ in_use book → i < length ps → Tallied (taken book) (map taken_by (drop i (in_use book))) gs ns → Tallied (taken book) (taken_by (get_or ps i d) ∷ map taken_by (drop (i + 1) (in_use book))) gs ns
-next book ps i d gs ns is less h =
-    let l : i < length (in_use book) = subst (λ xs. i < length xs) is less in
-    rw is (subst (λ xs. Tallied (taken book) (map taken_by xs) gs ns) (drop_more (in_use book) i d l) h)
-
--- nothing is still to be added
-pub all_tallied : (held : List Taken) (gs : List ℤ) (ns : List ℕ) → Tallied held [] gs ns → (choice : ℕ → Bool) → (grams_in choice (numbered 1 gs) ≡ grams_in choice (map row_grams (lines held))) × (count_in choice (numbered 1 ns) ≡ count_in choice (map row_count (lines held)))
-unfolding sum_in
-all_tallied held gs ns h choice = (omega (arith, ints, h.grams choice), omega (arith, h.counts choice))
+    -- and as the code adds it
+    pub added_line : {gs' : List ℤ} {ns' : List ℕ} → gs' ≡ set gs row (to_z w64 (of_z w64 (sum_of (get_or gs row (pos 0)) grams))) → ns' ≡ set ns row (get_or ns row 0 + 1) → Tallied places (i + 1) gs' ns'
+    added_line {gs'} p q =
+        let g : gs' ≡ set gs row (get_or gs row (pos 0) +ℤ grams) = p ∙ ap (set gs row) (light_kept (get_or gs row (pos 0)) grams light_sum) in
+        rw (g, q) tallied

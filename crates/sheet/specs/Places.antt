@@ -32,7 +32,7 @@ pub record OnePlace (new : Place) (before after : Book) : Type 0 where
   pub at : ℕ
   pub within : at < length before.places
   pub places : after.places ≡ set before.places at new
-  pub used : (after.used ≡ before.used) ⊎ ((at ≡ before.used) × (after.used ≡ before.used + 1))
+  pub used : ((at < before.used) × (after.used ≡ before.used)) ⊎ ((at ≡ before.used) × (after.used ≡ before.used + 1))
 
 -- the places that are in use
 abbrev pub in_use : Book → List Place

@@ -32,7 +32,7 @@ impl Book {
     // As many as there are at most: a book is plain, and no bound on `used` is known of every one.
     fn in_use(&self) -> &[Place]
         ensures value { result.now ≡ in_use self.now }
-        ensures whole { length self.now.places ≡ PLACES }
+        ensures few { length result.now ≤ PLACES }
     {
         &self.places[..self.used.min(PLACES)]
     }
@@ -43,11 +43,12 @@ impl Book {
     {
         let mut grams = [0; ROWS];
         let mut counts = [0; ROWS];
-        for place in self.in_use() {
+        let places = self.in_use();
+        for place in places {
             if let Some(line) = place.line() {
-                let at = line.row.index();
-                grams[at] += line.signed_grams();
-                counts[at] += 1;
+                let row = line.row.index();
+                grams[row] += line.signed_grams();
+                counts[row] += 1;
             }
         }
         Totals { grams, counts }
@@ -55,8 +56,7 @@ impl Book {
 
     // The place of a number.
     fn find(&self, number: u32) -> Option<usize>
-        ensures value { result ≡ position (λ p. p.number == number) (in_use self.now) }
-        ensures whole { length self.now.places ≡ PLACES }
+        ensures { result ≡ position (λ p. p.number == number) (in_use self.now) }
     {
         self.in_use()
             .iter()
@@ -65,7 +65,7 @@ impl Book {
 
     // Lets a line in: in place of the one under its number, if it is of a higher revision, or in the next place.
     pub(crate) fn put(&mut self, new: Place) -> Result<(), Refusal>
-        ensures value { Puts new self.old result self.new }
+        ensures { Puts new self.old result self.new }
     {
         match self.find(new.number) {
             Some(at) => self.replace(at, new),

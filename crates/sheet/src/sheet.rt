@@ -1,12 +1,16 @@
 // The sheet.
 ghost use Rattle.std.specs.Prelude.{◌≡◌, List, ◌∷◌, IfOk, IfErr};
-ghost use Rattle.domain.specs.Buildings.{numbers_of};
-ghost use Rattle.factors.specs.Maps.{Map};
+ghost use Rattle.refusals.specs.Refusals.{Decided};
 ghost use Rattle.domain.specs.declared.building.BuildingNumbers.{BuildingNumbers};
+ghost use Rattle.domain.specs.Buildings.{numbers_of};
+ghost use Rattle.feed.specs.Frames.{first_note};
+ghost use Rattle.factors.specs.Maps.{Map};
 ghost use Rattle.grades.specs.Grades.{grade_number};
 ghost use Rattle.sheet.specs.Histories.{Pages, Grades, Event, sent, paged, graded, Run};
 ghost use Rattle.sheet.specs.Laws.{Lawful};
-ghost use Rattle.sheet.specs.States.{state_of, opened, OneChanged, Sends};
+ghost use Rattle.sheet.specs.Notes.{note_of, Named};
+ghost use Rattle.sheet.specs.Places.{taken_by};
+ghost use Rattle.sheet.specs.States.{state_of, opened, asked, line_sent, OneChanged, Sends};
 
 use crate::book::Book;
 use crate::place::Place;
@@ -43,9 +47,17 @@ impl<S: FactorSource> Sheet<S> {
         ensures refused { IfErr result (λ _. self.new ≡ self.old) }
         ensures law { (b : BuildingNumbers) (known : Map) (before : List Event) → Run b known before (state_of S.known self.old) → Lawful b known (sent bytes.now result ∷ before) }
     {
-        let sent = Sent::read(bytes)?;
-        let place = Place::of(&sent, &self.building, &self.source)?;
+        let place = self.place_of(bytes)?;
         self.book.put(place)
+    }
+
+    // The place that the first note of the bytes takes, whatever the book holds.
+    fn place_of(&self, bytes: &[u8]) -> Result<Place, Refusal>
+        ensures value { Decided (asked self.now.building.life (S.known self.now.source) bytes.now) (λ p. taken_by p ≡ line_sent (state_of S.known self.now) bytes.now) result }
+        ensures named { IfErr result (Named self.now.building.life (S.known self.now.source) (note_of (first_note bytes.now)).entry) }
+    {
+        let sent = Sent::read(bytes)?;
+        Place::of(&sent, &self.building, &self.source)
     }
 
     // Writes a page by a cut into the first places, one for each of its headings, and answers the total. Fewer places are refused, and left as they are.
