@@ -10,7 +10,7 @@ use Rattle.domain.specs.declared.entry.Entry.{Entry}
 use Rattle.domain.specs.declared.factor.FactorNumbers.{FactorNumbers}
 use Rattle.factors.specs.Maps.{Map, has}
 use Rattle.booking.specs.declared.booked.Statement.{Statement}
-use Rattle.booking.specs.Booked.{Has, Told, amount_of, unit_of, asked_of_itself, States, factor, entry_product, exact_grams, factor_asked, unit_asked, product_asked, asked_of_factor, content, booked, Books}
+use Rattle.booking.specs.Booked.{Has, FactorTold, amount_of, unit_of, asked_of_itself, States, factor, entry_product, exact_grams, factor_asked, unit_asked, product_asked, asked_of_factor, content, booked, Books}
 use Rattle.booking.specs.Reckonings.{unit_fits}
 use Rattle.booking.specs.Rows.{reckoning}
 use Rattle.booking.specs.Weights.{product, ProductRange, exact_divisor, GramsRange}
@@ -26,7 +26,7 @@ module _ (y : ℕ) (known : Map) (e : Entry) where
   )
 
   -- its source lacks its factor
-  pub factor_refused : Kept (asked_of_itself e) → (l : Lacking) → Told (factor y known e) e.head.code (Err l) → Books y known e (Err (FactorLacking l))
+  pub factor_refused : Kept (asked_of_itself e) → (l : Lacking) → FactorTold (factor y known e) e.head.code (Err l) → Books y known e (Err (FactorLacking l))
   unfolding content
   factor_refused kept l lack = (
     told (asked_of_itself e) (unit_asked y known e ∷ product_asked y known e ∷ []) lack_number refl kept (λ h. subst Has lack.1 h),

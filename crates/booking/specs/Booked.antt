@@ -30,9 +30,9 @@ unit_of (has factor) = factor.unit
 unit_of (lacks code) = 0
 
 -- what a source answers for the code c, and what is told of it
-abbrev pub Told : Answer → ℕ → Result Factor Lacking → Type 0
-Told answer c (Ok f) = answer ≡ has (factor_numbers f)
-Told answer c (Err l) = (l.asked ≡ c) × (answer ≡ lacks l.lacking)
+abbrev pub FactorTold : Answer → ℕ → Result Factor Lacking → Type 0
+FactorTold answer c (Ok f) = answer ≡ has (factor_numbers f)
+FactorTold answer c (Err l) = (l.asked ≡ c) × (answer ≡ lacks l.lacking)
 
 -- a refusal for want of the factor of the code c names that code, and the one that is lacking
 abbrev pub Names : ℕ → Answer → Refusal → Type 0

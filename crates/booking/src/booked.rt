@@ -2,7 +2,7 @@
 ghost use Rattle.std.specs.Prelude.{pos, IfOk};
 ghost use Rattle.exact.specs.Rounding.{WithinHalf};
 ghost use Rattle.refusals.specs.Refusals.{Decided};
-ghost use Rattle.booking.specs.Booked.{asked_of_itself, States, exact_grams, Books, Told};
+ghost use Rattle.booking.specs.Booked.{asked_of_itself, States, exact_grams, Books, FactorTold};
 
 use crate::line::Line;
 use crate::quantity::thousandths;
@@ -66,7 +66,7 @@ fn judge(years: u16, entry: &Entry) -> Result<Statement, Refusal>
 
 // The factor of a code, or the code that was asked for and the one that is lacking.
 fn ask<S: FactorSource>(source: &S, code: u32) -> Result<Factor, Lacking>
-    ensures { Told (S.known source.now code) code result }
+    ensures { FactorTold (S.known source.now code) code result }
 {
     source.factor(code).map_err(|lack| Lacking {
         asked: code,

@@ -31,3 +31,10 @@ row_fields row = (codes "code", row.code) ∷ (codes "amount", row.factor.amount
 
 abbrev pub head_fields : EntryHead → List Named
 head_fields e = (codes "row", e.row) ∷ (codes "span", e.span) ∷ (codes "code", e.code) ∷ []
+
+-- a building and a factor row in words
+abbrev pub building_said : BuildingNumbers → List ℕ
+building_said b = codes "building " ++ fields_said (building_fields b)
+
+abbrev pub row_said : FactorRow → List ℕ
+row_said row = codes "factor " ++ fields_said (row_fields row)

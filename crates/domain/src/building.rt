@@ -75,12 +75,11 @@ impl TryFrom<BuildingNumbers> for Building {
     }
 }
 
-// Its fields by name.
 impl fmt::Display for Building {
     ghost use Rattle.domain.specs.Buildings.{numbers_of};
-    ghost use Rattle.domain.specs.Words.{building_fields, fields_said};
+    ghost use Rattle.domain.specs.Words.{building_said};
 
-    ghost output = { λ b. Some (fields_said (building_fields (numbers_of b))) };
+    ghost output = { λ b. Some (building_said (numbers_of b)) };
 
     fn fmt<W: fmt::Write>(&self, f: &mut fmt::Formatter<W>) -> fmt::Result {
         let area = self.area;
@@ -91,7 +90,7 @@ impl fmt::Display for Building {
         let reference = self.reference;
         write!(
             f,
-            "area={area} life={life} region={region} sun={sun} type={building_type} reference={reference}"
+            "building area={area} life={life} region={region} sun={sun} type={building_type} reference={reference}"
         )
     }
 }

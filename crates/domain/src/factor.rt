@@ -52,16 +52,15 @@ impl TryFrom<FactorNumbers> for Factor {
     }
 }
 
-// Its fields by name.
 impl fmt::Display for FactorRow {
-    ghost use Rattle.domain.specs.Words.{fields_said, row_fields};
+    ghost use Rattle.domain.specs.Words.{row_said};
 
-    ghost output = { λ row. Some (fields_said (row_fields row)) };
+    ghost output = { λ row. Some (row_said row) };
 
     fn fmt<W: fmt::Write>(&self, f: &mut fmt::Formatter<W>) -> fmt::Result {
         let code = self.code;
         let amount = self.factor.amount;
         let unit = self.factor.unit;
-        write!(f, "code={code} amount={amount} unit={unit}")
+        write!(f, "factor code={code} amount={amount} unit={unit}")
     }
 }

@@ -9,13 +9,13 @@ warming =
     3500 ∷ 1430 ∷ 4470 ∷ 124 ∷ 3220 ∷ 14800 ∷ 1340 ∷ 1370 ∷ 9810 ∷ 693 ∷ 1030 ∷ 675 ∷ 794 ∷ 92 ∷ 1640 ∷ []
 
 -- a factor of so much, per unit of this number
-abbrev pub factor_of : (amount unit : ℕ) → FactorNumbers
-factor_of amount unit = record { amount = amount; unit = unit }
+abbrev pub factor_per : (amount unit : ℕ) → FactorNumbers
+factor_per amount unit = record { amount = amount; unit = unit }
 
 -- grid electricity (1) in kilowatt-hours (3), and from 101 on the refrigerants in kilograms (4)
 abbrev pub built_in : Map
 built_in c =
-    if c == 1 then has (factor_of 5000 3)
+    if c == 1 then has (factor_per 5000 3)
     else (if nat_lt c 101 then lacks c
-    else (if nat_lt (c - 101) (length warming) then has (factor_of (slice_index warming (c - 101) * 10000) 4)
+    else (if nat_lt (c - 101) (length warming) then has (factor_per (slice_index warming (c - 101) * 10000) 4)
     else lacks c))

@@ -7,9 +7,9 @@ use Rattle.std.specs.Option.{option_map}
 use Rattle.feed.specs.Writing.{Written}
 
 -- what is read up to there, where it is known what a reader still has
-pub read_to : (remaining : Option (List ℕ)) (n : ℕ) (before bytes : List ℕ) → n ≡ 65537 → before ≡ [] → IfSome (option_map (take n) remaining) (λ more. bytes ≡ before ++ more) → IfSome remaining (λ feed. bytes ≡ take 65537 feed)
-read_to None n before bytes limit empty read = tt
-read_to (Some feed) n before bytes limit empty read = read ∙ (λ i. empty i ++ take (limit i) feed)
+pub read_to : (remaining : Option (List ℕ)) (bytes : List ℕ) {n : ℕ} {before : List ℕ} → n ≡ 65537 → before ≡ [] → IfSome (option_map (take n) remaining) (λ more. bytes ≡ before ++ more) → IfSome remaining (λ feed. bytes ≡ take 65537 feed)
+read_to None bytes limit empty read = tt
+read_to (Some feed) bytes limit empty read = read ∙ (λ i. empty i ++ take (limit i) feed)
 
 -- that is the feed, or it is too long and so is the feed
 pub all_or_long : (feed : List ℕ) → (take 65537 feed ≡ feed) ⊎ ((65536 < length (take 65537 feed)) × (65536 < length feed))
@@ -18,14 +18,8 @@ all_or_long feed =
     (λ long. inr (omega (arith, length-take-le 65537 feed long), omega (arith, long)))
     (order (length feed) 65537)
 
--- what is written for the bytes that were read is written for the whole feed, where they serve for it
-pub written_for : (P : List ℕ → List ℕ → Type 0) → ((feed text : List ℕ) → P (take 65537 feed) text → P feed text) → (remaining held holds : Option (List ℕ)) (bytes text : List ℕ) → IfSome remaining (λ feed. bytes ≡ take 65537 feed) → P bytes text → Appends held holds text → IfSome remaining (λ feed. Written (P feed) held holds)
-written_for P serves None held holds bytes text read says appended = tt
-written_for P serves (Some feed) held holds bytes text read says appended =
+-- what is written for the bytes that were read is written for the whole feed, where it serves for it
+pub written_for : (P Q : List ℕ → List ℕ → Type 0) → ((feed text : List ℕ) → P (take 65537 feed) text → Q feed text) → (remaining held holds : Option (List ℕ)) (bytes text : List ℕ) → IfSome remaining (λ feed. bytes ≡ take 65537 feed) → P bytes text → Appends held holds text → IfSome remaining (λ feed. Written (Q feed) held holds)
+written_for P Q serves None held holds bytes text read says appended = tt
+written_for P Q serves (Some feed) held holds bytes text read says appended =
     record { text = text; says = serves feed text (subst (λ bs. P bs text) read says); appended = appended }
-
--- and of what is written, all holds that follows
-pub written_so : (P Q : List ℕ → List ℕ → Type 0) → ((feed text : List ℕ) → P feed text → Q feed text) → (remaining held holds : Option (List ℕ)) → IfSome remaining (λ feed. Written (P feed) held holds) → IfSome remaining (λ feed. Written (Q feed) held holds)
-written_so P Q follows None held holds written = tt
-written_so P Q follows (Some feed) held holds written =
-    record { text = written.text; says = follows feed written.text written.says; appended = written.appended }

@@ -1,10 +1,10 @@
 -- The notes of factor rows that bytes begin with: there is one list of them, and a reader hands them out. Assumes nothing.
-use Rattle.std.proofs.Common.{◌≡◌, ℕ, ◌+◌, List, [], ◌∷◌, ◌++◌, Some, None, Result, sym, refl, subst, append-nil}
+use Rattle.std.proofs.Common.{◌≡◌, ℕ, ◌+◌, List, [], ◌∷◌, ◌++◌, Some, None, Ok, Result, sym, refl, subst, append-nil}
 use Rattle.refusals.specs.declared.refusal.Refusal.{Refusal}
 use Rattle.domain.specs.declared.factor.FactorRow.{FactorRow}
 use Rattle.feed.specs.declared.reader.Part.{Part}
 use Rattle.feed.specs.declared.reader.Reader.{Reader}
-use Rattle.feed.specs.Feeds.{text, left_of, HandsRow}
+use Rattle.feed.specs.Feeds.{Answer, text, left_of, HandsRow, ReaderRun, called}
 use Rattle.feed.specs.Frames.{first_note, after_first}
 use Rattle.feed.specs.Readings.{ReadsFactorRow}
 use Rattle.feed.specs.Rows.{RowNotes, row, ended, RowsRead, none, one}
@@ -25,17 +25,21 @@ pub record RowsAnswered (left : List ℕ) (bs : List ℕ) (answers : List (Resul
   pub rows : RowNotes bs notes left
   pub read : RowsRead notes answers
 
--- a reader has handed out rows since it was `start`, and these were answered
-pub record RowsSofar (start r : Reader) (answers : List (Result FactorRow Refusal)) : Type 0 where
+-- a reader of the feed has handed out rows since it was `start`, and these were answered
+pub record RowsSofar (feed : List ℕ) (start r : Reader) (answers : List (Result FactorRow Refusal)) : Type 0 where
+  pub calls : List Answer
+  pub run : ReaderRun feed calls r
   pub sofar : (left : List ℕ) → Sofar (λ k at. RowsAnswered left) (start.handed + 1) start.start (left_of start) r answers
 
-pub no_rows_yet : (r : Reader) {answers : List (Result FactorRow Refusal)} → answers ≡ [] → RowsSofar r r answers
-no_rows_yet r empty = record { sofar = λ left. none_yet (λ k at. RowsAnswered left) r empty }
+pub no_rows_yet : {feed : List ℕ} {calls : List Answer} (r : Reader) {answers : List (Result FactorRow Refusal)} → ReaderRun feed calls r → answers ≡ [] → RowsSofar feed r r answers
+no_rows_yet r run empty = record { calls = _; run = run; sofar = λ left. none_yet (λ k at. RowsAnswered left) r empty }
 
-module _ {start r : Reader} {answers : List (Result FactorRow Refusal)} (old : RowsSofar start r answers) where
-  pub row_more : {p : Part} {t : Reader} {longer : List (Result FactorRow Refusal)} (a : Result FactorRow Refusal) → HandsRow r (Some p) t → ReadsFactorRow (text p) a → longer ≡ answers ++ (a ∷ []) → RowsSofar start t longer
+module _ {feed : List ℕ} {start r : Reader} {answers : List (Result FactorRow Refusal)} (old : RowsSofar feed start r answers) where
+  pub row_more : {p : Part} {t : Reader} {longer : List (Result FactorRow Refusal)} (a : Result FactorRow Refusal) → HandsRow r (Some p) t → ReadsFactorRow (text p) a → longer ≡ answers ++ (a ∷ []) → RowsSofar feed start t longer
   row_more {p} {t} a step reads is =
       record {
+        calls = Ok (Some p) ∷ old.calls;
+        run = called old.run step.1;
         sofar = λ left.
             one_more (λ k at. RowsAnswered left) (old.sofar left) (a ∷ []) step.1 is
             (λ more found. record {

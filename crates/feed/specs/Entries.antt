@@ -9,36 +9,39 @@ use Rattle.feed.specs.declared.entry.SentEntry.{SentEntry}
 use Rattle.feed.specs.declared.entry.SentQuantity.{SentQuantity}
 use Rattle.feed.specs.declared.entry.SentQuantity.TheVariants.{Counted, Measured}
 use Rattle.feed.specs.declared.kind.Kind.{Kind}
-use Rattle.feed.specs.declared.kind.Kind.TheVariants.{Counted as CountedEntry, Measured as MeasuredEntry}
+use Rattle.feed.specs.declared.kind.Kind.TheVariants.{Building, Factor, Counted as CountedEntry, Measured as MeasuredEntry, Withdrawal}
 use Rattle.feed.specs.Fields.{field}
 
 -- after the length and the kind of a note come, in every note that is sent, its number and its revision; and in an entry row, span and code, and then its quantity
-abbrev pub number_at : ℕ
-number_at = 4
+abbrev pub number_offset : ℕ
+number_offset = 4
 
-abbrev pub revision_at : ℕ
-revision_at = number_at + 4
+abbrev pub revision_offset : ℕ
+revision_offset = number_offset + 4
 
-abbrev pub row_at : ℕ
-row_at = revision_at + 4
+abbrev pub row_offset : ℕ
+row_offset = revision_offset + 4
 
-abbrev pub span_at : ℕ
-span_at = row_at + 2
+abbrev pub span_offset : ℕ
+span_offset = row_offset + 2
 
-abbrev pub code_at : ℕ
-code_at = span_at + 2
+abbrev pub code_offset : ℕ
+code_offset = span_offset + 2
 
-abbrev pub quantity_at : ℕ
-quantity_at = code_at + 4
+abbrev pub quantity_offset : ℕ
+quantity_offset = code_offset + 4
 
 abbrev pub entry_head : List ℕ → EntryHead
-entry_head note = record { row = field note row_at 2; span = field note span_at 2; code = field note code_at 4 }
+entry_head note = record { row = field note row_offset 2; span = field note span_offset 2; code = field note code_offset 4 }
 
 -- the quantity of a note of a kind, if its kind has one: the kind says which form it has
 abbrev pub kind_quantity : Option Kind → List ℕ → Option SentQuantity
-kind_quantity (Some CountedEntry) note = Some (Counted (field note quantity_at 8))
-kind_quantity (Some MeasuredEntry) note = Some (Measured (field note quantity_at 8))
-kind_quantity kind note = None
+kind_quantity None note = None
+kind_quantity (Some Building) note = None
+kind_quantity (Some Factor) note = None
+kind_quantity (Some CountedEntry) note = Some (Counted (field note quantity_offset 8))
+kind_quantity (Some MeasuredEntry) note = Some (Measured (field note quantity_offset 8))
+kind_quantity (Some Withdrawal) note = None
 
 -- the kind of the notes that have such a quantity
 abbrev pub entry_kind : SentQuantity → Kind

@@ -6,7 +6,8 @@ use Rattle.domain.specs.declared.factor.FactorRow.{FactorRow}
 use Rattle.feed.specs.declared.opening.Opening.{Opening}
 use Rattle.feed.specs.declared.opening.OpeningError.{OpeningError}
 use Rattle.feed.specs.declared.opening.OpeningError.TheVariants.{Refused, OutOfMemory}
-use Rattle.feed.specs.Feeds.{left_of}
+use Rattle.feed.specs.declared.reader.Reader.{Reader}
+use Rattle.feed.specs.Feeds.{Answer, left_of, ReaderRun}
 use Rattle.feed.specs.Frames.{after_first}
 use Rattle.feed.specs.Readings.{ReadsBuilding}
 use Rattle.feed.specs.Rows.{RowNotes, RowsRead}
@@ -16,11 +17,13 @@ pub record OpensWith (feed : List ℕ) (b : Building) (notes : List (List ℕ)) 
   pub building : ReadsBuilding feed (Ok b)
   pub rows : RowNotes (after_first feed) notes left
 
--- what a feed opens with, and what reading each of its factor rows answers
-pub record OpenedAs (feed : List ℕ) (b : Building) (answers : List (Result FactorRow Refusal)) (left : List ℕ) : Type 0 where
+-- what a feed opens with, what reading each of its factor rows answers, and the reader behind them: it is one of the feed, and has handed out just these
+pub record OpenedAs (feed : List ℕ) (b : Building) (answers : List (Result FactorRow Refusal)) (rest : Reader) : Type 0 where
   pub notes : List (List ℕ)
-  pub opens : OpensWith feed b notes left
+  pub opens : OpensWith feed b notes (left_of rest)
   pub read : RowsRead notes answers
+  pub calls : List Answer
+  pub run : ReaderRun feed calls rest
 
 -- an error says that memory does not suffice
 abbrev pub ForMemory : OpeningError → Type 0
@@ -29,6 +32,6 @@ ForMemory (OutOfMemory e) = Unit {0}
 
 -- r is what reading it answers, where memory suffices
 abbrev pub ReadsOpening : List ℕ → Result Opening OpeningError → Type 0
-ReadsOpening feed (Ok o) = OpenedAs feed o.building (vec_items o.rows) (left_of o.rest)
+ReadsOpening feed (Ok o) = OpenedAs feed o.building (vec_items o.rows) o.rest
 ReadsOpening feed (Err (Refused f)) = ReadsBuilding feed (Err f)
 ReadsOpening feed (Err (OutOfMemory e)) = Unit {0}

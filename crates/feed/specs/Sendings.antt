@@ -2,20 +2,22 @@
 use Rattle.std.specs.Prelude.{◌≡◌, ℕ, List, Some, None, Option, IsSomeAnd}
 use Rattle.feed.specs.declared.entry.SentQuantity.{SentQuantity}
 use Rattle.feed.specs.declared.kind.Kind.{Kind}
-use Rattle.feed.specs.declared.kind.Kind.TheVariants.{Building, Factor, Withdrawal as WithdrawalNote}
+use Rattle.feed.specs.declared.kind.Kind.TheVariants.{Building, Factor, Counted, Measured, Withdrawal as WithdrawalNote}
 use Rattle.feed.specs.declared.sent.Sent.{Sent}
 use Rattle.feed.specs.declared.sent.SentContent.{SentContent}
 use Rattle.feed.specs.declared.sent.SentContent.TheVariants.{Entry, Withdrawal}
 use Rattle.domain.specs.declared.entry.Entry.{Entry as BookedEntry}
-use Rattle.feed.specs.Entries.{number_at, revision_at, entry_head, entry_kind, kind_quantity, sent_entry}
+use Rattle.feed.specs.Entries.{number_offset, revision_offset, entry_head, entry_kind, kind_quantity, sent_entry}
 use Rattle.feed.specs.Fields.{field}
 use Rattle.feed.specs.Kinds.{kind_in}
 
--- all kinds but buildings and factor rows
+-- entries and withdrawals are sent
 abbrev pub IsSent : Kind → Type 0
 IsSent Building = ⊥
 IsSent Factor = ⊥
-IsSent kind = Unit {0}
+IsSent Counted = Unit {0}
+IsSent Measured = Unit {0}
+IsSent WithdrawalNote = Unit {0}
 
 -- what a note says under its number: an entry, if it has a quantity, and else a withdrawal
 abbrev pub content_of : Option SentQuantity → List ℕ → SentContent
@@ -24,7 +26,7 @@ content_of None note = Withdrawal
 
 -- what a note says that is sent: its number and its revision come first
 abbrev pub sent_of : List ℕ → Sent
-sent_of note = record { number = field note number_at 4; revision = field note revision_at 4; content = content_of (kind_quantity (kind_in note) note) note }
+sent_of note = record { number = field note number_offset 4; revision = field note revision_offset 4; content = content_of (kind_quantity (kind_in note) note) note }
 
 -- a note is of a kind that is sent, and says s
 abbrev pub SaysSent : List ℕ → Sent → Type 0

@@ -1,12 +1,11 @@
 -- Notes in words: a kind, and its fields by name. Assumes nothing.
 use Rattle.std.specs.Prelude.{ℕ, List, [], ◌∷◌, ◌++◌, codes}
 use Rattle.domain.specs.Buildings.{numbers_of}
-use Rattle.domain.specs.Words.{Named, fields_said, building_fields, row_fields, head_fields}
+use Rattle.domain.specs.Words.{Named, fields_said, head_fields, building_said, row_said}
 use Rattle.feed.specs.declared.entry.SentEntry.{SentEntry}
 use Rattle.feed.specs.declared.entry.SentQuantity.{SentQuantity}
 use Rattle.feed.specs.declared.entry.SentQuantity.TheVariants.{Counted, Measured}
 use Rattle.feed.specs.declared.kind.Kind.{Kind}
-use Rattle.feed.specs.declared.kind.Kind.TheVariants.{Building as BuildingNote, Factor as FactorNote}
 use Rattle.feed.specs.declared.note.Note.{Note}
 use Rattle.feed.specs.declared.note.Note.TheVariants.{Building, Factor, Sent as SentNote}
 use Rattle.feed.specs.declared.sent.Sent.{Sent}
@@ -36,6 +35,6 @@ sent_said s = said_of (sent_kind s.content) ((codes "number", s.number) ∷ (cod
 
 -- what a note says
 abbrev pub words : Note → List ℕ
-words (Building b) = said_of BuildingNote (building_fields (numbers_of b))
-words (Factor row) = said_of FactorNote (row_fields row)
+words (Building b) = building_said (numbers_of b)
+words (Factor row) = row_said row
 words (SentNote s) = sent_said s

@@ -7,7 +7,7 @@ ghost use Rattle.feed.specs.Readings.{Reads, form};
 ghost use Rattle.refusals.specs.declared.refusal.Refusal.TheVariants.{WrongLength};
 ghost use Rattle.refusals.specs.Refusals.{Decided, Judged};
 
-use crate::frame::{first_note, kind_of};
+use crate::frame::{first_note, kind_field};
 use crate::kind::Kind;
 use refusals::Refusal;
 
@@ -32,7 +32,7 @@ pub(crate) fn read<T: Content>(bytes: &[u8]) -> Result<T, Refusal>
     ensures alone { Framed bytes.now → Reads T.Wanted T.Says (first_note bytes.now) result }
 {
     let note = first_note(bytes)?;
-    let kind = Kind::try_from(kind_of(note))?;
+    let kind = Kind::try_from(kind_field(note))?;
     T::of_note(kind, note)
 }
 

@@ -1,7 +1,7 @@
 // An entry as it was sent: none of its numbers is judged here. A measured quantity is kept by its bits, which a floating number would lose.
 ghost use Rattle.std.specs.Prelude.{◌≡◌, ◌≤◌, length, Some};
 ghost use Rattle.feed.specs.declared.kind.Kind.{Kind};
-ghost use Rattle.feed.specs.Entries.{quantity_at, entry_kind, entry_head, kind_quantity, sent_entry};
+ghost use Rattle.feed.specs.Entries.{quantity_offset, entry_kind, entry_head, kind_quantity, sent_entry};
 ghost use Rattle.feed.specs.Kinds.{note_length};
 
 use crate::kind::Kind;
@@ -60,7 +60,7 @@ impl SentQuantity {
 
 // What an entry says before its quantity.
 pub(crate) fn head(note: &[u8]) -> EntryHead
-    requires { quantity_at ≤ length note.now }
+    requires { quantity_offset ≤ length note.now }
     ensures { result ≡ entry_head note.now }
 {
     EntryHead {

@@ -28,7 +28,7 @@ pub fn first_note(bytes: &[u8]) -> Result<&[u8], Refusal>
     Ok(&bytes[0..len])
 }
 
-pub(crate) fn kind_of(note: &[u8]) -> u16
+pub(crate) fn kind_field(note: &[u8]) -> u16
     requires { 4 ≤ length note.now }
     ensures { result ≡ note_kind note.now }
 {
@@ -51,7 +51,7 @@ impl Head {
         let note = first_note(bytes)?;
         Ok(Head {
             length: note.len(),
-            kind: kind_of(note),
+            kind: kind_field(note),
         })
     }
 }

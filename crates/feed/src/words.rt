@@ -4,7 +4,6 @@ ghost use Rattle.domain.specs.Words.{fields_said};
 ghost use Rattle.feed.specs.Words.{entry_fields, sent_said, words};
 
 use crate::entry::{SentEntry, SentQuantity};
-use crate::kind::Kind;
 use crate::note::Note;
 use crate::sent::{Sent, SentContent};
 use domain::EntryHead;
@@ -44,8 +43,8 @@ impl fmt::Display for Note {
 
     fn fmt<W: fmt::Write>(&self, f: &mut fmt::Formatter<W>) -> fmt::Result {
         match self {
-            Note::Building(building) => write!(f, "{} {building}", Kind::Building),
-            Note::Factor(row) => write!(f, "{} {row}", Kind::Factor),
+            Note::Building(building) => write!(f, "{building}"),
+            Note::Factor(row) => write!(f, "{row}"),
             Note::Sent(sent) => write!(f, "{sent}"),
         }
     }

@@ -3,7 +3,7 @@ use Rattle.std.specs.Prelude.{◌≡◌, ℕ, false, List, [], ◌∷◌, pos, n
 use Rattle.std.specs.Float.{binary64}
 use Rattle.std.specs.Float.Ieee.{round}
 use Rattle.refusals.specs.Refusals.{Kept}
-use Rattle.factors.specs.BuiltIn.{factor_of, built_in}
+use Rattle.factors.specs.BuiltIn.{factor_per, built_in}
 use Rattle.factors.specs.Layers.{with_recycled}
 use Rattle.factors.specs.Maps.{Map, has}
 use Rattle.domain.specs.declared.entry.Entry.{Entry}
@@ -31,13 +31,13 @@ Measures n d thousandths =
 -- three headings of 400 grams, and two of 500 and -1,000; of a number that is withdrawn at revision 2, an entry at 1 that is refused, what counts after it, and what counts after one at 3
 abbrev pub figures : List (Type 0)
 figures =
-    ComesTo 1 (λ c. has (factor_of 5000 1)) (entry_of 1 0 7 1) 1
-    ∷ ComesTo 1 (λ c. has (factor_of 4999 1)) (entry_of 1 0 7 1) 0
+    ComesTo 1 (λ c. has (factor_per 5000 1)) (entry_of 1 0 7 1) 1
+    ∷ ComesTo 1 (λ c. has (factor_per 4999 1)) (entry_of 1 0 7 1) 0
     ∷ Measures 625 10000 63
     ∷ Measures 624 10000 62
     ∷ ComesTo 50 built_in (entry_of 21 15 102 1000) 4766667
-    ∷ ComesTo 50 (λ c. has (factor_of 1290 5)) (entry_of 2 500 7 30000) 1935000
-    ∷ (with_recycled (λ c. has (factor_of 5 1)) 1000007 ≡ has (factor_of 3 1))
+    ∷ ComesTo 50 (λ c. has (factor_per 1290 5)) (entry_of 2 500 7 30000) 1935000
+    ∷ (with_recycled (λ c. has (factor_per 5 1)) 1000007 ≡ has (factor_per 3 1))
     ∷ Prints (pos 400 ∷ (pos 400 ∷ (pos 400 ∷ []))) (pos 0 ∷ (pos 1 ∷ (pos 0 ∷ [])))
     ∷ Prints (pos 500 ∷ (neg_ℤ (pos 1000) ∷ [])) (pos 1 ∷ (neg_ℤ (pos 1) ∷ []))
     ∷ RefusedBy 1 21

@@ -4,14 +4,13 @@ use Rattle.feed.specs.declared.note.Note.{Note}
 use Rattle.feed.specs.declared.note.Note.TheVariants.{Building, Factor, Sent}
 use Rattle.feed.specs.Notes.{Says}
 use Rattle.feed.specs.Sendings.{IsSent}
-use Rattle.feed.specs.Words.{said_of, words}
-use Rattle.feed.specs.declared.kind.Kind.TheVariants.{Building as BuildingNote}
-use Rattle.domain.specs.Words.{building_fields}
+use Rattle.feed.specs.Words.{words}
+use Rattle.domain.specs.Words.{building_said}
 use Rattle.listing.specs.Lines.{entry_of}
 
 -- bytes give one text and one entry
 pub says_one : (note : List ℕ) (m n : Note) → Says note m → Says note n → (words m ≡ words n) × (entry_of m ≡ entry_of n)
-says_one note (Building b) (Building c) says says' = (ap (λ x. said_of BuildingNote (building_fields x)) (says.1 ∙ sym says'.1), refl)
+says_one note (Building b) (Building c) says says' = (ap building_said (says.1 ∙ sym says'.1), refl)
 says_one note (Factor r) (Factor q) says says' = (ap (λ x. words (Factor x)) (says.1 ∙ sym says'.1), refl)
 says_one note (Sent s) (Sent t) says says' = let same = says.1 ∙ sym says'.1 in (ap (λ x. words (Sent x)) same, ap (λ x. entry_of (Sent x)) same)
 says_one note (Building b) (Factor q) says says' = absurd (cc)

@@ -8,3 +8,8 @@ use Rattle.listing.specs.Listings.{Listing}
 pub record ListsOrRefuses (feed text : List ℕ) : Type 0 where
   pub listed : length feed ≤ 65536 → Listing feed text
   pub refused : 65536 < length feed → text ≡ refusal_said FeedTooLong ++ codes "\n"
+
+-- text is what is written for a feed, and no other is
+pub record IsListing (feed text : List ℕ) : Type 0 where
+  pub lists : ListsOrRefuses feed text
+  pub only : (other : List ℕ) → ListsOrRefuses feed other → other ≡ text

@@ -1,7 +1,7 @@
 // The listing of what a reader has, written to a writer.
-ghost use Rattle.std.specs.Prelude.{◌≡◌, ℕ, List, IfOk, IfSome, OnOk, string_bytes};
+ghost use Rattle.std.specs.Prelude.{IfOk, IfSome, OnOk, string_bytes};
 ghost use Rattle.feed.specs.Writing.{Written};
-ghost use Rattle.listing.specs.Answers.{ListsOrRefuses};
+ghost use Rattle.listing.specs.Answers.{ListsOrRefuses, IsListing};
 
 use crate::whole::listing;
 use feed::input::{MOST_BYTES, read_feed};
@@ -15,8 +15,7 @@ pub fn write_listing<R: Read + Drop, W: Write>(
     reader: R,
     writer: &mut W,
 ) -> io::Result<()>
-    ensures value { OnOk result (IfSome (R.remaining reader) (λ feed. Written (ListsOrRefuses feed) (W.contents writer.old) (W.contents writer.new))) }
-    ensures only { OnOk result (IfSome (R.remaining reader) (λ feed. Written (λ text. (other : List ℕ) → ListsOrRefuses feed other → other ≡ text) (W.contents writer.old) (W.contents writer.new))) }
+    ensures { OnOk result (IfSome (R.remaining reader) (λ feed. Written (IsListing feed) (W.contents writer.old) (W.contents writer.new))) }
 {
     let feed = read_feed(heap, reader)?;
     let text = listing_or_refusal(heap, feed.as_slice())?;

@@ -29,7 +29,7 @@ use Rattle.pages.proofs.Shown.{shown}
 use Rattle.report.specs.Accounts.{SendsOf, ended as all_sent, unframed, note, Accounts, Concludes}
 use Rattle.report.specs.Calls.{said, send_said}
 use Rattle.report.specs.Lines.{denied_line, page_lines, grade_line}
-use Rattle.report.specs.Reports.{Reports, denied, account, LawfulReport}
+use Rattle.report.specs.Reports.{Reports, denied, account, LawfulReport, IsReport}
 use Rattle.report.proofs.Concluding.{concludes}
 use Rattle.report.specs.Projects.{sized, row_asked, ReadsRow, ProjectParts, parts, TakesRows, all, row, refused, Opens, too_long, no_building, row_refused, project}
 
@@ -154,6 +154,9 @@ pub report_lawful : {feed text : List ℕ} → Reports feed text → LawfulRepor
 report_lawful {feed} (denied {f = f} opens is) c opens' = absurd (opens_only feed (Err f) (Ok c) opens opens')
 report_lawful {feed} {text} (account {c = d} opens a) c opens' =
     subst (λ x. Concludes x text) (opens_only feed (Ok d) (Ok c) opens opens') (concludes d text a)
+
+pub is_report : {feed text : List ℕ} → Reports feed text → IsReport feed text
+is_report reports = record { reports = reports; only = λ other more. report_only more reports; law = report_lawful reports }
 
 -- what a call promises of the report that it makes
 module _ (feed : List ℕ) (r : Result (String Global) AllocError) (value : IfOk r (λ s. Reports feed (string_bytes s))) where

@@ -9,6 +9,8 @@ use Rattle.domain.specs.declared.factor.FactorRow.{FactorRow}
 use Rattle.domain.specs.Buildings.{numbers_of}
 use Rattle.feed.specs.declared.opening.OpeningError.{OpeningError}
 use Rattle.feed.specs.declared.opening.OpeningError.TheVariants.{Refused, OutOfMemory}
+use Rattle.feed.specs.declared.reader.Reader.{Reader}
+use Rattle.feed.specs.Feeds.{left_of}
 use Rattle.feed.specs.Openings.{OpenedAs, ReadsOpening}
 use Rattle.feed.specs.Rows.{RowsRead}
 use Rattle.report.specs.Projects.{parts, TakesRows, Opens, too_long, no_building, row_refused, project, ReadsRows, ReadsProject}
@@ -23,11 +25,11 @@ module _ (feed : List ℕ) where
     not_opened (Refused f) reads = no_building (short, tt) reads
     not_opened (OutOfMemory e) reads = tt
 
-    module _ {b : Building} {answers : List (Result FactorRow Refusal)} {left : List ℕ} (opened : OpenedAs feed b answers left) where
+    module _ {b : Building} {answers : List (Result FactorRow Refusal)} {rest : Reader} (opened : OpenedAs feed b answers rest) where
       -- nor is there one where a row is refused
       pub row_not_taken : (e : OpeningError) → ((notes : List (List ℕ)) → RowsRead notes answers → ReadsRows notes (Err e)) → ReadsProject feed (Err e)
       row_not_taken (Refused f) own = row_refused (short, tt) opened.opens (own opened.notes opened.read)
       row_not_taken (OutOfMemory e) own = tt
 
-      pub taken : (rows : List FactorRow) → ((notes : List (List ℕ)) → RowsRead notes answers → TakesRows [] notes (Ok rows)) → Opens feed (Ok (parts (numbers_of b) rows left))
+      pub taken : (rows : List FactorRow) → ((notes : List (List ℕ)) → RowsRead notes answers → TakesRows [] notes (Ok rows)) → Opens feed (Ok (parts (numbers_of b) rows (left_of rest)))
       taken rows own = project (short, tt) opened.opens (own opened.notes opened.read)

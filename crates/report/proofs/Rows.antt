@@ -1,28 +1,10 @@
 -- Gathering the factor rows of a project. Assumes nothing.
-use Rattle.std.proofs.Common.{◌≡◌, ℕ, ◌<◌, List, [], ◌∷◌, ◌++◌, length, Ok, Err, Result, sym, refl, subst}
+use Rattle.std.proofs.Common.{◌≡◌, ℕ, List, [], ◌∷◌, ◌++◌, length, Ok, Err, Result, sym, refl, subst}
 use Rattle.refusals.specs.declared.refusal.Refusal.{Refusal}
-use Rattle.refusals.specs.declared.refusal.Refusal.TheVariants.{TooManyRows}
-use Rattle.refusals.specs.Refusals.{refusal_number}
-use Rattle.refusals.proofs.Deciding.{least_stop, told, kept_both}
 use Rattle.domain.specs.declared.factor.FactorRow.{FactorRow}
-use Rattle.feed.specs.declared.kind.Kind.TheVariants.{Factor as FactorNote}
-use Rattle.feed.specs.Readings.{ReadsFactorRow, readable}
+use Rattle.feed.specs.Readings.{ReadsFactorRow}
 use Rattle.feed.specs.Rows.{RowsRead, none, one}
 use Rattle.report.specs.Projects.{ReadsRow, TakesRows, all, row, refused}
-
--- ---- One row, after n others
-
-module _ (n : ℕ) (note : List ℕ) where
-  pub row_refused : (f : Refusal) → ReadsFactorRow note (Err f) → ReadsRow n note (Err f)
-  row_refused f least = least_stop (readable (λ kind. kind ≡ FactorNote) note) ((refusal_number TooManyRows, n < 256) ∷ []) (refusal_number f) refl least
-
-  pub row_too_many : (r : FactorRow) → ReadsFactorRow note (Ok r) → (n < 256 → ⊥) → ReadsRow n note (Err TooManyRows)
-  row_too_many r reads many = told (readable (λ kind. kind ≡ FactorNote) note) [] (refusal_number TooManyRows) refl reads.0 many
-
-  pub row_taken : (r : FactorRow) → ReadsFactorRow note (Ok r) → n < 256 → ReadsRow n note (Ok r)
-  row_taken r reads few = (kept_both (readable (λ kind. kind ≡ FactorNote) note) ((refusal_number TooManyRows, n < 256) ∷ []) reads.0 (few, tt), reads.1)
-
--- ---- All rows
 
 -- these rows were gathered of notes, and then come those whose answers are still to be taken
 pub record Gathered (notes : List (List ℕ)) (rest : List (Result FactorRow Refusal)) (rows : List FactorRow) : Type 0 where

@@ -13,3 +13,9 @@ pub data Reports (feed text : List ℕ) : Type 0 where
 -- where a feed is not refused before its notes, its report ends with a page and a grade of which the law over histories holds
 abbrev pub LawfulReport : List ℕ → List ℕ → Type 0
 LawfulReport feed text = (c : ProjectParts) → Opens feed (Ok c) → Concludes c text
+
+-- text is the report of a feed, no other is, and the law over histories holds of it
+pub record IsReport (feed text : List ℕ) : Type 0 where
+  pub reports : Reports feed text
+  pub only : (other : List ℕ) → Reports feed other → other ≡ text
+  pub law : LawfulReport feed text

@@ -1,7 +1,7 @@
 // The report of what a reader has, written to a writer.
-ghost use Rattle.std.specs.Prelude.{◌≡◌, ℕ, List, IfSome, OnOk};
+ghost use Rattle.std.specs.Prelude.{IfSome, OnOk};
 ghost use Rattle.feed.specs.Writing.{Written};
-ghost use Rattle.report.specs.Reports.{Reports, LawfulReport};
+ghost use Rattle.report.specs.Reports.{IsReport};
 
 use crate::whole::report;
 use feed::input::read_feed;
@@ -14,9 +14,7 @@ pub fn write_report<R: Read + Drop, W: Write>(
     reader: R,
     writer: &mut W,
 ) -> io::Result<()>
-    ensures value { OnOk result (IfSome (R.remaining reader) (λ feed. Written (Reports feed) (W.contents writer.old) (W.contents writer.new))) }
-    ensures only { OnOk result (IfSome (R.remaining reader) (λ feed. Written (λ text. (other : List ℕ) → Reports feed other → other ≡ text) (W.contents writer.old) (W.contents writer.new))) }
-    ensures law { OnOk result (IfSome (R.remaining reader) (λ feed. Written (LawfulReport feed) (W.contents writer.old) (W.contents writer.new))) }
+    ensures { OnOk result (IfSome (R.remaining reader) (λ feed. Written (IsReport feed) (W.contents writer.old) (W.contents writer.new))) }
 {
     let feed = read_feed(heap, reader)?;
     let text = report(heap, feed.as_slice())?;

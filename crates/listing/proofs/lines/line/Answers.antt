@@ -1,4 +1,4 @@
-use Rattle.std.proofs.Common.{string_bytes}
+use Rattle.std.proofs.Common.{◌≡◌, ℕ, List, string_bytes}
 use Rattle.std.proofs.lemmas.Result.{IfOk-weaker}
 use Rattle.listing.specs.Lines.{Line}
 use Rattle.listing.specs.Bases.{basis_of}
@@ -8,7 +8,7 @@ use Rattle.listing.proofs.lines.line.Goals as goal
 pub returns : goal.returns
 returns c =
     let part = c.args.part.now in
-    let basis = basis_of c.args.basis.now in
-    let value =
-    IfOk-weaker c.format.result _ (λ s. Line basis part.place part.start part.bytes.now (string_bytes s)) (λ s e. record { said = _; tells = c.of-statement.ensures; text = e }) c.format.ensures.ok in
-    record { value = value; only = IfOk-weaker c.format.result _ _ (λ s line other more. line_only more line) value }
+    let Says : List ℕ → Type 0 = Line (basis_of c.args.basis.now) part.place part.start part.bytes.now in
+    let value = IfOk-weaker c.format.result _ (λ s. Says (string_bytes s)) (λ s e. record { said = _; tells = c.of-statement.ensures; text = e }) c.format.ensures.ok in
+    let only = IfOk-weaker c.format.result (λ s. Says (string_bytes s)) (λ s. (other : List ℕ) → Says other → other ≡ string_bytes s) (λ s line other more. line_only more line) value in
+    record { value = value; only = only }

@@ -1,9 +1,9 @@
 use Rattle.std.proofs.Common.{string_bytes, ◌∙◌, subst}
 use Rattle.std.proofs.lemmas.Result.{on_ok_weaker}
 use Rattle.std.specs.Io.KnownBytes.{Appends}
-use Rattle.feed.proofs.Enough.{written_for, written_so}
-use Rattle.listing.proofs.Enough.{enough, one_text}
-use Rattle.listing.specs.Answers.{ListsOrRefuses}
+use Rattle.feed.proofs.Enough.{written_for}
+use Rattle.listing.proofs.Enough.{is_listing}
+use Rattle.listing.specs.Answers.{ListsOrRefuses, IsListing}
 use Rattle.listing.proofs.writing.write_listing.Goals as goal
 
 pub returns : goal.returns
@@ -13,6 +13,4 @@ returns g c =
     let holds = g.W.Write.contents c.write_all.new.self in
     let text = string_bytes c.in_ok-text.text in
     let lists = subst (λ bs. ListsOrRefuses bs text) c.as_slice.ensures.value c.in_ok-text.ensures in
-    let value =
-    on_ok_weaker c.write_all.result (λ appended. written_for ListsOrRefuses enough remaining held holds _ text c.in_ok-feed.ensures lists (subst (Appends held holds) (c.as_bytes.ensures.value ∙ c.as_str.ensures.value) appended)) c.write_all.ensures.bytes in
-    record { value = value; only = on_ok_weaker c.write_all.result (written_so ListsOrRefuses _ one_text remaining held holds) value }
+    on_ok_weaker c.write_all.result (λ appended. written_for ListsOrRefuses IsListing is_listing remaining held holds _ text c.in_ok-feed.ensures lists (subst (Appends held holds) (c.as_bytes.ensures.value ∙ c.as_str.ensures.value) appended)) c.write_all.ensures.bytes

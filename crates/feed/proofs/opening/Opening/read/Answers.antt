@@ -1,10 +1,12 @@
+use Rattle.std.proofs.Common.{sym, subst}
+use Rattle.feed.specs.Feeds.{ReaderRun, opened, called}
 use Rattle.feed.proofs.Beginning.{first_passed}
 use Rattle.feed.proofs.Ending.{fewer_left}
 use Rattle.feed.proofs.Rows.{no_rows_yet, row_more, no_row_more}
 use Rattle.feed.proofs.opening.Opening.read.Goals as goal
 
 pub loop-note-init : goal.loop-note-init
-loop-note-init c = no_rows_yet c.next.new.self c.new-rows.ensures.items
+loop-note-init c = no_rows_yet c.next.new.self (called (opened c.new-rest.ensures) c.next.ensures.value) c.new-rows.ensures.items
 
 pub loop-note-smaller : goal.loop-note-smaller
 loop-note-smaller c = fewer_left c.in-Some.ensures.1
@@ -17,4 +19,10 @@ returns c =
     let reads = c.in_ok-building.ensures.value in
     let found = no_row_more c.loop-note.invariant c.in_default.ensures in
     let passed = first_passed c.next.result c.next.new.self c.new-rest.ensures c.next.ensures.value reads.0.0 in
-    record { notes = found.notes; opens = record { building = reads; rows = rw passed at found.rows }; read = found.read }
+    record {
+      notes = found.notes;
+      opens = record { building = reads; rows = rw passed at found.rows };
+      read = found.read;
+      calls = c.loop-note.invariant.calls;
+      run = subst (ReaderRun c.args.feed.now c.loop-note.invariant.calls) (sym c.in_default.ensures.1) c.loop-note.invariant.run;
+    }
