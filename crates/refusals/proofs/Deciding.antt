@@ -105,6 +105,10 @@ pub least_stop : (cs ds : Conditions) (n : ℕ) → InOrder (cs ++ ds) → Least
 least_stop cs ds n o d =
     (broken_left cs ds n d.0, λ m l b. ⊎_elim (d.1 m l) (λ e. let later = earlier cs ds o n m d.0 e in omega arith) (broken_either cs ds m b))
 
+-- where one of the later conditions is told, none of the first fails
+pub first_unbroken : (cs ds : Conditions) (k : ℕ) → InOrder (cs ++ ds) → Least (cs ++ ds) k → Broken ds k → (m : ℕ) → Broken cs m → ⊥
+first_unbroken cs ds k o least d m b = least.1 m (earlier cs ds o m k b d) (broken_left cs ds m b)
+
 -- of conditions in their order one fails, and those before it hold: it is told
 pub told : (before after : Conditions) (n : ℕ) {P : Type 0} → InOrder (before ++ ((n, P) ∷ after)) → Kept before → (P → ⊥) → Least (before ++ ((n, P) ∷ after)) n
 told before after n {P} o kept fails =

@@ -1,10 +1,10 @@
 -- What a sheet holds after its sends: the lines of the notes that decide. Assumes nothing.
-use Rattle.std.proofs.Common.{◌≡◌, ℕ, ◌<◌, List, [], ◌∷◌, ◌++◌, map, Ok, Err, Result, inl, inr, ⊎_elim, sym, refl, ◌∙◌, subst}
+use Rattle.std.proofs.Common.{◌≡◌, ℕ, List, [], ◌∷◌, ◌++◌, map, Ok, Err, Result, inl, inr, ⊎_elim, sym, refl, ◌∙◌, subst}
 use Rattle.std.specs.List.{AllByRecursion}
 use Rattle.refusals.specs.declared.refusal.Refusal.{Refusal}
 use Rattle.refusals.specs.declared.refusal.Refusal.TheVariants.{Superseded, Contradicted, BookFull}
 use Rattle.refusals.specs.Refusals.{refusal_number, Conditions, Kept, Broken, Least}
-use Rattle.refusals.proofs.Deciding.{unbroken, kept_left, kept_right, kept_by, broken_either, broken_left, earlier, least_told}
+use Rattle.refusals.proofs.Deciding.{unbroken, kept_left, kept_right, kept_by, broken_either, first_unbroken, least_told}
 use Rattle.factors.specs.Maps.{Map}
 use Rattle.domain.specs.declared.building.BuildingNumbers.{BuildingNumbers}
 use Rattle.sheet.specs.Notes.{Note, entry_asked, taken_of}
@@ -99,9 +99,7 @@ module _ (b : BuildingNumbers) (known : Map) where
     refused : (k : ℕ) → Least (content_asked ++ book_asked) k → Standing (bs ∷ sends) (holding roll)
     refused k least =
         ⊎_elim (λ u. record { roll = roll; is_roll = unfit bs is_roll (k, u); holds = refl; sound = sound })
-        (λ p.
-        let before : (m : ℕ) → Broken content_asked m → m < k = λ m u. earlier content_asked book_asked (in_order (holding roll) bs) m k u p in
-        unplaced_for (λ u. least.1 u.0 (before u.0 u.1) (broken_left content_asked book_asked u.0 u.1)) p)
+        (λ p. unplaced_for (λ u. first_unbroken content_asked book_asked k (in_order (holding roll) bs) least p u.0 u.1) p)
         (broken_either content_asked book_asked k least.0)
 
     one_send : {r : Result (Unit {0}) Refusal} {t : State} → Sends (holding roll) bs r t → Standing (bs ∷ sends) t
