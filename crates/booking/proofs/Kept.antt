@@ -1,43 +1,43 @@
--- What holds of an entry whose content is kept: the laws that what is built on bookings cites. Assumes nothing.
+-- What holds of an entry whose content is kept: the laws that what is built on bookings cites.
 use Rattle.std.proofs.Common.{pos, ℕ, ◌<◌, ◌≤◌, arith}
-use Rattle.exact.specs.Rounding.{Divides, WithinHalf}
+use Rattle.exact.specs.Rounding.{HasDivisor, IsWithinHalf}
 use Rattle.exact.proofs.Nearness.{rounded_near, rounded_most}
-use Rattle.factors.specs.Maps.{Map}
+use Rattle.factors.specs.Maps.{FactorMap}
 use Rattle.refusals.specs.declared.refusal.Refusal.TheVariants.{UnknownRow, UnfitSpan, TooLarge}
-use Rattle.refusals.specs.Refusals.{refusal_number, Kept}
-use Rattle.refusals.proofs.Deciding.{kept_by}
+use Rattle.refusals.specs.Refusals.{refusal_number, AllHold}
+use Rattle.refusals.proofs.Deciding.{hold_at}
 use Rattle.domain.specs.declared.entry.Entry.{Entry}
-use Rattle.booking.specs.declared.reckoning.Reckoning.{Reckoning}
-use Rattle.booking.specs.Booked.{span_asked, product_asked, entry_product, entry_divisor, exact_grams, content, booked}
-use Rattle.booking.specs.Reckonings.{SpanFits, divisor}
-use Rattle.booking.specs.Rows.{RowRange, reckoning}
-use Rattle.booking.specs.Weights.{most_grams, GramsRange}
+use Rattle.booking.specs.declared.method.CalculationMethod.{CalculationMethod}
+use Rattle.booking.specs.Booking.{span_condition, product_condition, entry_product, entry_divisor, exact_grams, booking_conditions, booked_line}
+use Rattle.booking.specs.Methods.{SpanFits, divisor}
+use Rattle.booking.specs.Rows.{IsRowNumber, method}
+use Rattle.booking.specs.Emissions.{max_grams, IsLineGrams}
 
 -- a divisor is no more than the longest span
-pub divisor_range : (k : Reckoning) (s : ℕ) → SpanFits k s → (0 < divisor k s) × (divisor k s ≤ 100)
+pub divisor_range : (k : CalculationMethod) (s : ℕ) → SpanFits k s → (0 < divisor k s) × (divisor k s ≤ 100)
 divisor_range k s fits = grind arith
 
-module _ (y : ℕ) (known : Map) (e : Entry) (kept : Kept (content y known e)) where
+module _ (y : ℕ) (factor_map : FactorMap) (e : Entry) (kept : AllHold (booking_conditions y factor_map e)) where
   -- its row is a row
-  pub row_kept : RowRange e.head.row
-  unfolding content
-  row_kept = kept_by (refusal_number UnknownRow) (content y known e) kept
+  pub row_kept : IsRowNumber e.head.row
+  unfolding booking_conditions
+  row_kept = hold_at (refusal_number UnknownRow) (booking_conditions y factor_map e) kept
 
-  span_kept : (span_asked e).1
-  unfolding content
-  span_kept = kept_by (refusal_number UnfitSpan) (content y known e) kept
+  span_kept : (span_condition e).1
+  unfolding booking_conditions
+  span_kept = hold_at (refusal_number UnfitSpan) (booking_conditions y factor_map e) kept
 
-  product_kept : (product_asked y known e).1
-  unfolding content
-  product_kept = kept_by (refusal_number TooLarge) (content y known e) kept
+  product_kept : (product_condition y factor_map e).1
+  unfolding booking_conditions
+  product_kept = hold_at (refusal_number TooLarge) (booking_conditions y factor_map e) kept
 
   -- its exact grams are a number
-  pub exact_divides : Divides (exact_grams y known e)
-  exact_divides = omega (arith, divisor_range (reckoning e.head.row) e.head.span span_kept)
+  pub exact_divides : HasDivisor (exact_grams y factor_map e)
+  exact_divides = omega (arith, divisor_range (method e.head.row) e.head.span span_kept)
 
   -- its booked grams are in a line's range, and within half a gram of the exact ones
-  pub grams_kept : GramsRange (booked y known e).grams
-  grams_kept = rounded_most (entry_product y known e) (entry_divisor y known e) most_grams exact_divides (omega (arith, product_kept, exact_divides))
+  pub grams_kept : IsLineGrams (booked_line y factor_map e).grams
+  grams_kept = rounded_most (entry_product y factor_map e) (entry_divisor y factor_map e) max_grams exact_divides (omega (arith, product_kept, exact_divides))
 
-  pub grams_near : WithinHalf (pos (booked y known e).grams) (exact_grams y known e)
-  grams_near = rounded_near (entry_product y known e) (entry_divisor y known e) exact_divides
+  pub grams_near : IsWithinHalf (pos (booked_line y factor_map e).grams) (exact_grams y factor_map e)
+  grams_near = rounded_near (entry_product y factor_map e) (entry_divisor y factor_map e) exact_divides

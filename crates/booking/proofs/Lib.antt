@@ -2,4 +2,4 @@ pub mod Kept
 mod Measures
 mod Patterns
 pub mod Single
-mod Weighing
+mod Calculating

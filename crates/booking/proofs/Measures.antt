@@ -1,4 +1,4 @@
--- Quantities: their ranges by the code's tests, and what is booked of them. Assumes nothing.
+-- Quantities: their ranges by the code's tests, and what is booked of them.
 use Rattle.std.proofs.Common.{◌≡◌, ℕ, zero, suc, ◌+◌, ◌*◌, ◌<◌, ◌≤◌, ◌↔◌, true, false, ◌||◌, ◌&&◌, ltb, eqb, ℤ, pos, ◌*ℤ◌, nat_abs, Ok, Err, Result, IfOk, sym, refl, ap, ◌∙◌, subst, true≢false, arith}
 use lib.Ieee.{Float, nan, inf, fin, up, down, binary64, of_bits, is_nan, lt, le, eq}
 use lib.Ieee.Fits.{up_pos, down_pos}
@@ -7,12 +7,12 @@ use Rattle.std.proofs.lemmas.Bool.Decides.{nat_tests}
 use Rattle.std.proofs.lemmas.Int.{ints}
 use Rattle.refusals.specs.declared.refusal.Refusal.{Refusal}
 use Rattle.refusals.specs.declared.refusal.Refusal.TheVariants.{UnfitQuantity}
-use Rattle.refusals.specs.Refusals.{Judged}
-use Rattle.exact.specs.Rounding.{over, Divides, nearest, WithinHalf}
+use Rattle.refusals.specs.Refusals.{GivesOrRefusesBy}
+use Rattle.exact.specs.Rounding.{over, HasDivisor, nearest_whole, IsWithinHalf}
 use Rattle.exact.proofs.Nearness.{stays, rounded_near, rounded_most}
 use Rattle.domain.specs.declared.entry.Quantity.{Quantity}
 use Rattle.domain.specs.declared.entry.Quantity.TheVariants.{Counted, Measured}
-use Rattle.booking.specs.Quantities.{MeasuredInRange, measured_thousandths, QuantityInRange, exact_thousandths, booked_thousandths}
+use Rattle.booking.specs.Quantities.{IsMeasuredInRange, measured_thousandths, IsQuantityInRange, exact_thousandths, booked_thousandths}
 
 -- only zero is nothing times a power of two
 none : (m : ℕ) (e : ℤ) → m * up e ≡ 0 → m ≡ 0
@@ -37,14 +37,14 @@ abbrev most_measured : Float
 most_measured = of_bits binary64 4696837146684686336
 
 -- no NaN is in range
-pub nan_out : (x : Float) → is_nan x ≡ true → MeasuredInRange x → ⊥
+pub nan_out : (x : Float) → is_nan x ≡ true → IsMeasuredInRange x → ⊥
 unfolding is_nan
 nan_out nan n r = r
 nan_out (inf s) n r = r
 nan_out (fin s m e) n r = absurd (true≢false (sym n))
 
 -- both comparisons hold of a number in range, and of nothing else
-pub passes : (x : Float) → IsTrue (le least_measured x) → IsTrue (le x most_measured) → MeasuredInRange x
+pub passes : (x : Float) → IsTrue (le least_measured x) → IsTrue (le x most_measured) → IsMeasuredInRange x
 unfolding le lt eq of_bits
 passes nan l h = absurd (true≢false (sym l))
 passes (inf true) l h = absurd (true≢false (sym l))
@@ -52,7 +52,7 @@ passes (inf false) l h = absurd (true≢false (sym h))
 passes (fin true m e) l h = let z = (both_zero (0 * down e) (m * up e * 1)).0 l in (omega (arith, z.1), λ t. none m e (omega (arith, z.1)))
 passes (fin false m e) l h = let k = (at_most (m * up e * 1) (1000000 * down e)).0 h in (omega (arith, k), λ t. absurd (true≢false (sym t)))
 
-pub passed : (x : Float) → MeasuredInRange x → IsTrue (le least_measured x) × IsTrue (le x most_measured)
+pub passed : (x : Float) → IsMeasuredInRange x → IsTrue (le least_measured x) × IsTrue (le x most_measured)
 unfolding le lt eq of_bits
 passed nan r = absurd r
 passed (inf s) r = absurd r
@@ -62,34 +62,34 @@ passed (fin true m e) r =
 passed (fin false m e) r = ((at_most (0 * down e) (m * up e * 1)).1 (omega arith), (at_most (m * up e * 1) (1000000 * down e)).1 (omega (arith, r.0)))
 
 -- what is measured is a number
-pub divides : (x : Float) → Divides (measured_thousandths x)
+pub divides : (x : Float) → HasDivisor (measured_thousandths x)
 divides nan = omega arith
 divides (inf s) = omega arith
 divides (fin s m e) = down_pos e
 
 -- a quantity is booked within half a thousandth of what it is exactly
-pub booked_near : (q : Quantity) {t : ℕ} → t ≡ booked_thousandths q → WithinHalf (pos t) (exact_thousandths q)
-booked_near q is = subst (λ n. WithinHalf (pos n) (exact_thousandths q)) (sym is) (near q)
+pub booked_near : (q : Quantity) {t : ℕ} → t ≡ booked_thousandths q → IsWithinHalf (pos t) (exact_thousandths q)
+booked_near q is = subst (λ n. IsWithinHalf (pos n) (exact_thousandths q)) (sym is) (near q)
   where
-    near : (q : Quantity) → WithinHalf (pos (booked_thousandths q)) (exact_thousandths q)
+    near : (q : Quantity) → IsWithinHalf (pos (booked_thousandths q)) (exact_thousandths q)
     near (Counted n) = rounded_near n 1 (omega arith)
     near (Measured nan) = rounded_near 0 1 (omega arith)
     near (Measured (inf s)) = rounded_near 0 1 (omega arith)
     near (Measured (fin s m e)) = rounded_near (1000 * (m * up e)) (down e) (down_pos e)
 
 -- and so is whatever is answered of it
-pub judged_near : (q : Quantity) (r : Result ℕ Refusal) → Judged (QuantityInRange q) UnfitQuantity (λ t. t ≡ booked_thousandths q) r → IfOk r (λ t. WithinHalf (pos t) (exact_thousandths q))
-judged_near q (Ok t) judged = booked_near q judged.1
-judged_near q (Err f) judged = tt
+pub gives_near : (q : Quantity) (r : Result ℕ Refusal) → GivesOrRefusesBy (IsQuantityInRange q) UnfitQuantity (λ t. t ≡ booked_thousandths q) r → IfOk r (λ t. IsWithinHalf (pos t) (exact_thousandths q))
+gives_near q (Ok t) activity = booked_near q activity.1
+gives_near q (Err f) activity = tt
 
 -- a counted quantity is booked as it was counted
 pub counted_is : (n : ℕ) → n ≡ booked_thousandths (Counted n)
 counted_is n =
     let whole : pos n *ℤ pos 1 ≡ pos n = omega (arith, ints) in
-    ap nat_abs (sym (stays (pos n) 1 (omega arith)) ∙ ap (λ m. nearest (over m 1)) whole)
+    ap nat_abs (sym (stays (pos n) 1 (omega arith)) ∙ ap (λ m. nearest_whole (over m 1)) whole)
 
 -- a quantity in range is booked in range
-pub booked_range : (q : Quantity) → QuantityInRange q → booked_thousandths q ≤ 1000000000
+pub booked_range : (q : Quantity) → IsQuantityInRange q → booked_thousandths q ≤ 1000000000
 booked_range (Counted n) r = rounded_most n 1 1000000000 (omega arith) (omega arith)
 booked_range (Measured nan) r = absurd r
 booked_range (Measured (inf s)) r = absurd r

@@ -1,6 +1,6 @@
-pub mod Booked
-pub mod Lines
+pub mod Booking
+pub mod LineTexts
 pub mod Quantities
-pub mod Reckonings
+pub mod Methods
 pub mod Rows
-pub mod Weights
+pub mod Emissions

@@ -1,20 +1,20 @@
--- Quantities: their range, and the thousandths that are booked. Assumes nothing.
+-- Quantities: their range, and the thousandths that are booked.
 use Rattle.std.specs.Prelude.{◌≡◌, ℕ, ◌*◌, ◌≤◌, true, pos, unsigned_abs, Float}
 use Rattle.std.specs.Float.{nan, inf, fin}
 use Rattle.std.specs.Float.Ieee.{up, down}
-use Rattle.exact.specs.Rounding.{Fraction, over, nearest}
+use Rattle.exact.specs.Rounding.{Fraction, over, nearest_whole}
 use Rattle.domain.specs.declared.entry.Quantity.{Quantity}
 use Rattle.domain.specs.declared.entry.Quantity.TheVariants.{Counted, Measured}
 
 -- a binary64 number from 0 to 1,000,000: it is m × 2^e, with 2^e written as up e / down e, and negative only where it is zero
-abbrev pub MeasuredInRange : Float → Type 0
-MeasuredInRange nan = ⊥
-MeasuredInRange (inf negative) = ⊥
-MeasuredInRange (fin negative m e) = (m * up e ≤ 1000000 * down e) × (negative ≡ true → m ≡ 0)
+abbrev pub IsMeasuredInRange : Float → Type 0
+IsMeasuredInRange nan = ⊥
+IsMeasuredInRange (inf negative) = ⊥
+IsMeasuredInRange (fin negative m e) = (m * up e ≤ 1000000 * down e) × (negative ≡ true → m ≡ 0)
 
-abbrev pub QuantityInRange : Quantity → Type 0
-QuantityInRange (Counted n) = n ≤ 1000000000
-QuantityInRange (Measured x) = MeasuredInRange x
+abbrev pub IsQuantityInRange : Quantity → Type 0
+IsQuantityInRange (Counted n) = n ≤ 1000000000
+IsQuantityInRange (Measured x) = IsMeasuredInRange x
 
 -- a thousand times the exact binary value; of what is no number this says nothing
 abbrev pub measured_thousandths : Float → Fraction
@@ -29,4 +29,4 @@ exact_thousandths (Measured x) = measured_thousandths x
 
 -- and how many are booked
 abbrev pub booked_thousandths : Quantity → ℕ
-booked_thousandths q = unsigned_abs (nearest (exact_thousandths q))
+booked_thousandths q = unsigned_abs (nearest_whole (exact_thousandths q))

@@ -1,15 +1,15 @@
--- The twenty-two rows, by their numbers. Assumes nothing.
+-- The twenty-two rows, by their numbers.
 use Rattle.std.specs.Prelude.{ℕ, Bool, if◌then◌else◌, ◌&&◌, ◌||◌, ◌==◌, nat_le}
-use Rattle.domain.specs.Ranges.{Within}
-use Rattle.booking.specs.declared.reckoning.Reckoning.{Reckoning}
-use Rattle.booking.specs.declared.reckoning.Reckoning.TheVariants.{Once, Hauled, Yearly, Renewed, Refilled}
+use Rattle.domain.specs.Ranges.{IsBetween}
+use Rattle.booking.specs.declared.method.CalculationMethod.{CalculationMethod}
+use Rattle.booking.specs.declared.method.CalculationMethod.TheVariants.{OneOff, DistanceBased, Annual, Replacement, Leakage}
 use Rattle.booking.specs.declared.row.Row.{Row}
 use Rattle.booking.specs.declared.row.Row.TheVariants.{Production, Haulage, MachineEnergy, MachineWater, OfficeEnergy, OfficeWater, TemporaryMaterial, RubbishHaulage, SiteRenewables, SiteGases, EquipmentEnergyBurnt, EquipmentEnergyBought, Water, UserEnergyBurnt, UserEnergyBought, Upkeep, Renewal, Refurbishment, Renewables, Sink, Refrigerant, Demolition}
 use Rattle.booking.specs.declared.rules.Stage.{Stage}
 use Rattle.booking.specs.declared.rules.Stage.TheVariants.{A, B, C, D}
 
-abbrev pub RowRange : ℕ → Type 0
-RowRange n = Within 1 n 22
+abbrev pub IsRowNumber : ℕ → Type 0
+IsRowNumber n = IsBetween 1 n 22
 
 abbrev pub row_number : Row → ℕ
 row_number Production = 1
@@ -46,14 +46,14 @@ abbrev pub stage : ℕ → ℕ
 stage row = if nat_le row 2 then 1 else (if nat_le row 10 then 2 else (if nat_le row 21 then 3 else 4))
 
 -- renewables on site and in use, and the sink
-abbrev pub subtracted : ℕ → Bool
-subtracted row = row == 9 || (row == 19 || row == 20)
+abbrev pub is_subtracted : ℕ → Bool
+is_subtracted row = row == 9 || (row == 19 || row == 20)
 
 -- haulage is reckoned by distance; what is used is reckoned by the year, but for renewal, refurbishment and refrigerant
-abbrev pub reckoning : ℕ → Reckoning
-reckoning row =
-    if row == 2 || row == 8 then Hauled
-    else (if (nat_le 11 row && nat_le row 16) || (row == 19 || row == 20) then Yearly
-    else (if row == 17 then Renewed
-    else (if row == 21 then Refilled
-    else Once)))
+abbrev pub method : ℕ → CalculationMethod
+method row =
+    if row == 2 || row == 8 then DistanceBased
+    else (if (nat_le 11 row && nat_le row 16) || (row == 19 || row == 20) then Annual
+    else (if row == 17 then Replacement
+    else (if row == 21 then Leakage
+    else OneOff)))

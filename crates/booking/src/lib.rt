@@ -1,18 +1,18 @@
-// What an entry weighs: its row's rule, its quantity and its factor, booked in whole grams.
+//! What an entry weighs: its row's rule, its quantity and its factor, booked in whole grams.
 #![tactic(auto)]
 
-mod booked;
+mod booking;
 mod line;
 mod measured;
 mod quantity;
-mod reckoning;
+mod method;
 mod row;
 mod rules;
-mod weight;
+mod emissions;
 
-pub use booked::book;
-pub use line::Line;
+pub use booking::book;
+pub use line::BookedLine;
 pub use quantity::thousandths;
-pub use reckoning::{Reckoning, Terms};
+pub use method::{CalculationMethod, Terms};
 pub use row::Row;
 pub use rules::{Rule, Stage};

@@ -1,26 +1,26 @@
-// A booked line.
+//! A booked line.
 ghost use Rattle.std.specs.Prelude.{◌≡◌};
-ghost use Rattle.booking.specs.Rows.{row_number, subtracted};
-ghost use Rattle.booking.specs.Weights.{GramsRange, signed_grams};
+ghost use Rattle.booking.specs.Rows.{row_number, is_subtracted};
+ghost use Rattle.booking.specs.Emissions.{IsLineGrams, signed_grams};
 
 use crate::row::Row;
 use std::fmt;
 
-// What an entry comes to. Every line that exists keeps its range.
+/// What an entry comes to. Every line that exists keeps its range.
 #[derive(Clone, Copy, Debug, PartialEq, Eq)]
-pub struct Line {
+pub struct BookedLine {
     pub row: Row,
     pub span: u16,
     pub code: u32,
     pub thousandths: u64,
     pub grams: u64,
-    ghost grams_within: { GramsRange grams },
+    ghost grams_within: { IsLineGrams grams },
 }
 
-impl Line {
-    // Its grams as they count in a sum.
+impl BookedLine {
+    /// Its grams as they count in a sum.
     pub fn signed_grams(self) -> i64
-        ensures { result ≡ signed_grams (subtracted (row_number self.row)) self.grams }
+        ensures { result ≡ signed_grams (is_subtracted (row_number self.row)) self.grams }
     {
         let grams = self.grams as i64;
         if self.row.rule().subtracted {
@@ -31,11 +31,11 @@ impl Line {
     }
 }
 
-impl fmt::Display for Line {
+impl fmt::Display for BookedLine {
     ghost use Rattle.std.specs.Prelude.{Some};
-    ghost use Rattle.booking.specs.Lines.{line_said};
+    ghost use Rattle.booking.specs.LineTexts.{line_text};
 
-    ghost output = { λ line. Some (line_said line) };
+    ghost output = { λ line. Some (line_text line) };
 
     fn fmt<W: fmt::Write>(&self, f: &mut fmt::Formatter<W>) -> fmt::Result {
         let thousandths = self.thousandths;

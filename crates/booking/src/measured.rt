@@ -1,11 +1,11 @@
-// A measured quantity: its range, and what it is by its binary digits, without floating-point arithmetic.
+//! A measured quantity: its range, and what it is by its binary digits, without floating-point arithmetic.
 ghost use Rattle.std.specs.Prelude.{◌^◌, ◌↔◌, IsTrue, pos};
-ghost use Rattle.exact.specs.Rounding.{over, Same};
-ghost use Rattle.booking.specs.Quantities.{MeasuredInRange, measured_thousandths};
+ghost use Rattle.exact.specs.Rounding.{over, IsSame};
+ghost use Rattle.booking.specs.Quantities.{IsMeasuredInRange, measured_thousandths};
 
 use exact::Binary;
 
-const MOST: f64 = 1_000_000.0;
+const MAX_MEASURED: f64 = 1_000_000.0;
 
 // A binary64 number is a sign, an exponent and the lower 52 of 53 digits.
 const SIGN: u64 = 1 << 63;
@@ -18,18 +18,18 @@ const LEADING_DIGIT: u64 = 1 << DIGITS;
 const SMALLEST: u32 = 1074;
 
 pub(crate) fn is_in_range(x: f64) -> bool
-    ensures { IsTrue result ↔ MeasuredInRange x }
+    ensures { IsTrue result ↔ IsMeasuredInRange x }
 {
     if x.is_nan() {
         return false;
     }
-    x >= 0.0 && x <= MOST
+    x >= 0.0 && x <= MAX_MEASURED
 }
 
 // How many thousandths a measured quantity is, exactly.
 pub(crate) fn exact_thousandths(x: f64) -> Binary
-    requires { MeasuredInRange x }
-    ensures { Same (over (pos result.numerator) (2 ^ result.shift)) (measured_thousandths x) }
+    requires { IsMeasuredInRange x }
+    ensures { IsSame (over (pos result.numerator) (2 ^ result.shift)) (measured_thousandths x) }
 {
     // In range only zero can be negative, so the sign says nothing.
     let size = x.to_bits() % SIGN;

@@ -1,21 +1,21 @@
-// The thousandths that are booked of a quantity.
+//! The thousandths that are booked of a quantity.
 ghost use Rattle.std.specs.Prelude.{◌≡◌, pos, IfOk};
 ghost use Rattle.domain.specs.declared.entry.Quantity.TheVariants.{Counted, Measured};
-ghost use Rattle.exact.specs.Rounding.{WithinHalf};
-ghost use Rattle.booking.specs.Quantities.{QuantityInRange, exact_thousandths, booked_thousandths};
+ghost use Rattle.exact.specs.Rounding.{IsWithinHalf};
+ghost use Rattle.booking.specs.Quantities.{IsQuantityInRange, exact_thousandths, booked_thousandths};
 ghost use Rattle.refusals.specs.declared.refusal.Refusal.TheVariants.{UnfitQuantity};
-ghost use Rattle.refusals.specs.Refusals.{Judged};
+ghost use Rattle.refusals.specs.Refusals.{GivesOrRefusesBy};
 
 use crate::measured::{exact_thousandths, is_in_range};
 use domain::Quantity;
 use refusals::Refusal;
 
-const MOST_COUNTED: u64 = 1_000_000_000;
+const MAX_COUNTED: u64 = 1_000_000_000;
 
-// As counted, or the nearest to what was measured, if the quantity is in range.
+/// As counted, or the nearest to what was measured, if the quantity is in range.
 pub fn thousandths(quantity: Quantity) -> Result<u64, Refusal>
-    ensures value { Judged (QuantityInRange quantity) UnfitQuantity (λ t. t ≡ booked_thousandths quantity) result }
-    ensures near { IfOk result (λ t. WithinHalf (pos t) (exact_thousandths quantity)) }
+    ensures value { GivesOrRefusesBy (IsQuantityInRange quantity) UnfitQuantity (λ t. t ≡ booked_thousandths quantity) result }
+    ensures near { IfOk result (λ t. IsWithinHalf (pos t) (exact_thousandths quantity)) }
 {
     match quantity {
         Quantity::Counted(n) => counted_thousandths(n),
@@ -24,19 +24,19 @@ pub fn thousandths(quantity: Quantity) -> Result<u64, Refusal>
 }
 
 fn counted_thousandths(n: u64) -> Result<u64, Refusal>
-    ensures { Judged (QuantityInRange (Counted n)) UnfitQuantity (λ t. t ≡ booked_thousandths (Counted n)) result }
+    ensures { GivesOrRefusesBy (IsQuantityInRange (Counted n)) UnfitQuantity (λ t. t ≡ booked_thousandths (Counted n)) result }
 {
-    if n > MOST_COUNTED {
+    if n > MAX_COUNTED {
         return Err(Refusal::UnfitQuantity);
     }
     Ok(n)
 }
 
 fn measured_thousandths(x: f64) -> Result<u64, Refusal>
-    ensures { Judged (QuantityInRange (Measured x)) UnfitQuantity (λ t. t ≡ booked_thousandths (Measured x)) result }
+    ensures { GivesOrRefusesBy (IsQuantityInRange (Measured x)) UnfitQuantity (λ t. t ≡ booked_thousandths (Measured x)) result }
 {
     if !is_in_range(x) {
         return Err(Refusal::UnfitQuantity);
     }
-    Ok(exact_thousandths(x).nearest())
+    Ok(exact_thousandths(x).round())
 }

@@ -1,9 +1,9 @@
-// The rows of a sheet: what an entry can be for.
-// Their conversions are written out, since an `impl` that a macro writes can promise nothing.
+//! The rows of a sheet: what an entry can be for.
+//! Their conversions are written out, since an `impl` that a macro writes can promise nothing.
 ghost use Rattle.std.specs.Prelude.{◌≡◌, ◌-◌};
-ghost use Rattle.booking.specs.Rows.{RowRange, row_number};
+ghost use Rattle.booking.specs.Rows.{IsRowNumber, row_number};
 ghost use Rattle.refusals.specs.declared.refusal.Refusal.TheVariants.{UnknownRow};
-ghost use Rattle.refusals.specs.Refusals.{Judged};
+ghost use Rattle.refusals.specs.Refusals.{GivesOrRefusesBy};
 
 use refusals::Refusal;
 
@@ -34,7 +34,7 @@ pub enum Row {
 }
 
 impl Row {
-    // Every row, in the order of their numbers.
+    /// Every row, in the order of their numbers.
     pub const ALL: [Row; 22] = [
         Row::Production,
         Row::Haulage,
@@ -60,7 +60,7 @@ impl Row {
         Row::Demolition,
     ];
 
-    // Where it stands among all of them, from 0.
+    /// Where it stands among all of them, from 0.
     pub fn index(self) -> usize
         ensures { result ≡ row_number self - 1 }
     {
@@ -71,7 +71,7 @@ impl Row {
 impl TryFrom<u16> for Row {
     type Error = Refusal;
 
-    ghost try_from_gives = { λ n r. Judged (RowRange n) UnknownRow (λ row. row_number row ≡ n) r };
+    ghost try_from_gives = { λ n r. GivesOrRefusesBy (IsRowNumber n) UnknownRow (λ row. row_number row ≡ n) r };
 
     fn try_from(n: u16) -> Result<Row, Refusal> {
         match n {

@@ -1,16 +1,16 @@
--- Buildings by their numbers, and the ranges of these. Assumes nothing.
+-- Buildings by their numbers, and the ranges of these.
 use Rattle.domain.specs.declared.building.Building.{Building}
 use Rattle.domain.specs.declared.building.BuildingNumbers.{BuildingNumbers}
 use Rattle.domain.specs.Numbers.{region_number, type_number}
-use Rattle.domain.specs.Ranges.{AreaRange, LifeRange, RegionRange, SunRange, TypeRange, ReferenceRange}
+use Rattle.domain.specs.Ranges.{IsArea, IsLife, IsRegionNumber, IsSunClass, IsTypeNumber, IsReference}
 
-pub record BuildingInRange (b : BuildingNumbers) : Type 0 where
-  pub area : AreaRange b.area
-  pub life : LifeRange b.life
-  pub region : RegionRange b.region
-  pub sun : SunRange b.sun
-  pub building_type : TypeRange b.building_type
-  pub reference : ReferenceRange b.reference
+pub record IsBuildingInRange (b : BuildingNumbers) : Type 0 where
+  pub area : IsArea b.area
+  pub life : IsLife b.life
+  pub region : IsRegionNumber b.region
+  pub sun : IsSunClass b.sun
+  pub building_type : IsTypeNumber b.building_type
+  pub reference : IsReference b.reference
 
 -- a building by its numbers
 abbrev pub numbers_of : Building → BuildingNumbers

@@ -2,4 +2,4 @@ pub mod Ranges
 pub mod Numbers
 pub mod Buildings
 pub mod Factors
-pub mod Words
+pub mod FieldTexts

@@ -1,4 +1,4 @@
--- The numbers that regions, building types and units have. Assumes nothing.
+-- The numbers that regions, building types and units have.
 use Rattle.std.specs.Prelude.{ℕ}
 use Rattle.domain.specs.declared.regions.Region.{Region}
 use Rattle.domain.specs.declared.regions.Region.TheVariants.{SevereCold, Cold, HotSummerColdWinter, HotSummerWarmWinter, Mild}

@@ -1,41 +1,41 @@
-// A building: its climate, its type, its size and its years.
+//! A building: its climate, its type, its size and its years.
 ghost use Rattle.std.specs.Prelude.{◌≡◌, Some};
-ghost use Rattle.domain.specs.Ranges.{AreaRange, LifeRange, SunRange, ReferenceRange};
+ghost use Rattle.domain.specs.Ranges.{IsArea, IsLife, IsSunClass, IsReference};
 
 use crate::regions::Region;
 use crate::types::BuildingType;
 use refusals::Refusal;
 use std::fmt;
 
-const MOST_AREA: u32 = 100_000_000;
+const MAX_AREA: u32 = 100_000_000;
 
-const MOST_LIFE: u16 = 100;
+const MAX_LIFE: u16 = 100;
 
-const MOST_SUN: u16 = 4;
+const MAX_SUN_CLASS: u16 = 4;
 
-const MOST_REFERENCE: u16 = 10_000;
+const MAX_REFERENCE: u16 = 10_000;
 
-// Every building that exists keeps these ranges.
+/// Every building that exists keeps these ranges.
 #[derive(Clone, Copy, Debug, PartialEq, Eq)]
 pub struct Building {
-    // in tenths of a square metre
+    /// in tenths of a square metre
     pub area: u32,
-    // in years
+    /// in years
     pub life: u16,
     pub region: Region,
-    // the class of solar irradiation where it stands: a number, as the classes have no names
+    /// the class of solar irradiation where it stands: a number, as the classes have no names
     pub sun: u16,
     pub building_type: BuildingType,
-    // the reference intensity, in tenths of a kilogram per square metre and year; 0 where there is none: the field's range
-    // has the 0, and an `Option` would only say it another way
+    /// the reference intensity, in tenths of a kilogram per square metre and year; 0 where there is none: the field's range
+    /// has the 0, and an `Option` would only say it another way
     pub reference: u16,
-    ghost area_within: { AreaRange area },
-    ghost life_within: { LifeRange life },
-    ghost sun_within: { SunRange sun },
-    ghost reference_within: { ReferenceRange reference },
+    ghost area_within: { IsArea area },
+    ghost life_within: { IsLife life },
+    ghost sun_within: { IsSunClass sun },
+    ghost reference_within: { IsReference reference },
 }
 
-// The numbers of a building as they came: any of them may be out of range or have no name.
+/// The numbers of a building as they came: any of them may be out of range or have no name.
 #[derive(Clone, Copy, Debug, PartialEq, Eq)]
 pub struct BuildingNumbers {
     pub area: u32,
@@ -48,19 +48,19 @@ pub struct BuildingNumbers {
 
 // The building of these numbers, if each is in range.
 impl TryFrom<BuildingNumbers> for Building {
-    ghost use Rattle.domain.specs.Buildings.{numbers_of, BuildingInRange};
+    ghost use Rattle.domain.specs.Buildings.{numbers_of, IsBuildingInRange};
     ghost use Rattle.refusals.specs.declared.refusal.Refusal.TheVariants.{OutOfRange};
-    ghost use Rattle.refusals.specs.Refusals.{Judged};
+    ghost use Rattle.refusals.specs.Refusals.{GivesOrRefusesBy};
 
     type Error = Refusal;
 
-    ghost try_from_gives = { λ n r. Judged (BuildingInRange n) OutOfRange (λ b. numbers_of b ≡ n) r };
+    ghost try_from_gives = { λ n r. GivesOrRefusesBy (IsBuildingInRange n) OutOfRange (λ b. numbers_of b ≡ n) r };
 
     fn try_from(n: BuildingNumbers) -> Result<Building, Refusal> {
-        let fits = (1..=MOST_AREA).contains(&n.area)
-            && (1..=MOST_LIFE).contains(&n.life)
-            && (1..=MOST_SUN).contains(&n.sun)
-            && n.reference <= MOST_REFERENCE;
+        let fits = (1..=MAX_AREA).contains(&n.area)
+            && (1..=MAX_LIFE).contains(&n.life)
+            && (1..=MAX_SUN_CLASS).contains(&n.sun)
+            && n.reference <= MAX_REFERENCE;
         if !fits {
             return Err(Refusal::OutOfRange);
         }
@@ -77,9 +77,9 @@ impl TryFrom<BuildingNumbers> for Building {
 
 impl fmt::Display for Building {
     ghost use Rattle.domain.specs.Buildings.{numbers_of};
-    ghost use Rattle.domain.specs.Words.{building_said};
+    ghost use Rattle.domain.specs.FieldTexts.{building_text};
 
-    ghost output = { λ b. Some (building_said (numbers_of b)) };
+    ghost output = { λ b. Some (building_text (numbers_of b)) };
 
     fn fmt<W: fmt::Write>(&self, f: &mut fmt::Formatter<W>) -> fmt::Result {
         let area = self.area;

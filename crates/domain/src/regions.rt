@@ -1,13 +1,13 @@
-// The climates, by their numbers in a feed.
+//! The climates, by their numbers in a feed.
 ghost use Rattle.std.specs.Prelude.{◌≡◌};
 ghost use Rattle.domain.specs.Numbers.{region_number};
-ghost use Rattle.domain.specs.Ranges.{RegionRange};
+ghost use Rattle.domain.specs.Ranges.{IsRegionNumber};
 ghost use Rattle.refusals.specs.declared.refusal.Refusal.TheVariants.{OutOfRange};
-ghost use Rattle.refusals.specs.Refusals.{Judged};
+ghost use Rattle.refusals.specs.Refusals.{GivesOrRefusesBy};
 
 use refusals::Refusal;
 
-// The climate that a building stands in.
+/// The climate that a building stands in.
 #[derive(Clone, Copy, Debug, PartialEq, Eq)]
 pub enum Region {
     SevereCold = 1,
@@ -20,7 +20,7 @@ pub enum Region {
 impl TryFrom<u16> for Region {
     type Error = Refusal;
 
-    ghost try_from_gives = { λ n r. Judged (RegionRange n) OutOfRange (λ region. region_number region ≡ n) r };
+    ghost try_from_gives = { λ n r. GivesOrRefusesBy (IsRegionNumber n) OutOfRange (λ region. region_number region ≡ n) r };
 
     fn try_from(n: u16) -> Result<Region, Refusal> {
         match n {

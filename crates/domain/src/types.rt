@@ -1,13 +1,13 @@
-// What buildings are for, by the numbers in a feed.
+//! What buildings are for, by the numbers in a feed.
 ghost use Rattle.std.specs.Prelude.{◌≡◌};
 ghost use Rattle.domain.specs.Numbers.{type_number};
-ghost use Rattle.domain.specs.Ranges.{TypeRange};
+ghost use Rattle.domain.specs.Ranges.{IsTypeNumber};
 ghost use Rattle.refusals.specs.declared.refusal.Refusal.TheVariants.{OutOfRange};
-ghost use Rattle.refusals.specs.Refusals.{Judged};
+ghost use Rattle.refusals.specs.Refusals.{GivesOrRefusesBy};
 
 use refusals::Refusal;
 
-// What a building is for.
+/// What a building is for.
 #[derive(Clone, Copy, Debug, PartialEq, Eq)]
 pub enum BuildingType {
     Residential = 1,
@@ -23,7 +23,7 @@ pub enum BuildingType {
 impl TryFrom<u16> for BuildingType {
     type Error = Refusal;
 
-    ghost try_from_gives = { λ n r. Judged (TypeRange n) OutOfRange (λ building_type. type_number building_type ≡ n) r };
+    ghost try_from_gives = { λ n r. GivesOrRefusesBy (IsTypeNumber n) OutOfRange (λ building_type. type_number building_type ≡ n) r };
 
     fn try_from(n: u16) -> Result<BuildingType, Refusal> {
         match n {

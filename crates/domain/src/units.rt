@@ -1,13 +1,13 @@
-// What factors are per, by the numbers in a feed.
+//! What factors are per, by the numbers in a feed.
 ghost use Rattle.std.specs.Prelude.{◌≡◌};
 ghost use Rattle.domain.specs.Numbers.{unit_number};
-ghost use Rattle.domain.specs.Ranges.{UnitRange};
+ghost use Rattle.domain.specs.Ranges.{IsUnitNumber};
 ghost use Rattle.refusals.specs.declared.refusal.Refusal.TheVariants.{OutOfRange};
-ghost use Rattle.refusals.specs.Refusals.{Judged};
+ghost use Rattle.refusals.specs.Refusals.{GivesOrRefusesBy};
 
 use refusals::Refusal;
 
-// What a factor's amount is per.
+/// What a factor's amount is per.
 #[derive(Clone, Copy, Debug, PartialEq, Eq)]
 pub enum FactorUnit {
     Tonne = 1,
@@ -22,7 +22,7 @@ pub enum FactorUnit {
 impl TryFrom<u16> for FactorUnit {
     type Error = Refusal;
 
-    ghost try_from_gives = { λ n r. Judged (UnitRange n) OutOfRange (λ unit. unit_number unit ≡ n) r };
+    ghost try_from_gives = { λ n r. GivesOrRefusesBy (IsUnitNumber n) OutOfRange (λ unit. unit_number unit ≡ n) r };
 
     fn try_from(n: u16) -> Result<FactorUnit, Refusal> {
         match n {

@@ -1,4 +1,4 @@
--- Products of an integer with a natural number. Assumes nothing.
+-- Products of an integer with a natural number.
 use Rattle.std.proofs.Common.{◌≡◌, ℕ, zero, suc, ◌*◌, ◌<◌, ℤ, pos, negsuc, ◌+ℤ◌, ◌*ℤ◌, neg_ℤ, ◌≤ℤ◌, ◌<ℤ◌, ap, ◌∙◌, mod-lt, div-add-mod', arith}
 use lib.IntN.{*ℤ-zero}
 use Rattle.std.specs.Int.{int_div_euclid, int_rem_euclid}

@@ -1,11 +1,11 @@
-// A fraction whose divisor is a power of two, and the whole number nearest to it.
+//! A fraction whose divisor is a power of two, and the whole number nearest to it.
 ghost use Rattle.std.specs.Prelude.{◌≡◌, ◌^◌, ◌<◌, pos};
-ghost use Rattle.exact.specs.Rounding.{nearest, over};
+ghost use Rattle.exact.specs.Rounding.{nearest_whole, over};
 
 use crate::rounding;
 
-// The numerator divided by 2 to the power of the shift. No `Ratio`, whose divisor has 32 bits: this one's may be 2 to the
-// power of 1074. No `PartialEq`, for one number may be written with many shifts.
+/// The numerator divided by 2 to the power of the shift. No `Ratio`, whose divisor has 32 bits: this one's may be 2 to the
+/// power of 1074. No `PartialEq`, for one number may be written with many shifts.
 #[derive(Clone, Copy, Debug)]
 pub struct Binary {
     pub numerator: u64,
@@ -14,9 +14,9 @@ pub struct Binary {
 }
 
 impl Binary {
-    // The nearest whole number, a half going up.
-    pub fn nearest(self) -> u64
-        ensures { pos result ≡ nearest (over (pos self.numerator) (2 ^ self.shift)) }
+    /// The nearest whole number, a half going up.
+    pub fn round(self) -> u64
+        ensures { pos result ≡ nearest_whole (over (pos self.numerator) (2 ^ self.shift)) }
     {
         let numerator = self.numerator;
         let shift = self.shift;
@@ -26,6 +26,6 @@ impl Binary {
         }
         let whole = numerator >> shift;
         let rest = numerator - (whole << shift);
-        rounding::nearest(whole as i64, rest, 1 << shift) as u64
+        rounding::round(whole as i64, rest, 1 << shift) as u64
     }
 }

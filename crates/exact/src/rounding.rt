@@ -1,12 +1,12 @@
-// Where a half goes is decided here, and nowhere else.
+//! Where a half goes is decided here, and nowhere else.
 ghost use Rattle.std.specs.Prelude.{◌≡◌, ◌-◌, ◌^◌, ◌<◌, pos, ◌+ℤ◌, ◌*ℤ◌, ◌<ℤ◌};
-ghost use Rattle.exact.specs.Rounding.{nearest, over};
+ghost use Rattle.exact.specs.Rounding.{nearest_whole, over};
 
 // The whole number nearest to whole + rest / divisor, a half going up.
-pub(crate) fn nearest(whole: i64, rest: u64, divisor: u64) -> i64
+pub(crate) fn round(whole: i64, rest: u64, divisor: u64) -> i64
     requires part { rest < divisor }
     requires room { 0 < rest → whole <ℤ pos (2 ^ 63 - 1) }
-    ensures { result ≡ nearest (over (whole *ℤ pos divisor +ℤ pos rest) divisor) }
+    ensures { result ≡ nearest_whole (over (whole *ℤ pos divisor +ℤ pos rest) divisor) }
 {
     // Not by doubling the rest, which could wrap.
     if rest < divisor - rest {

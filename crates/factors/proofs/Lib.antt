@@ -1,1 +1,1 @@
-mod Listed
+mod ListRows

@@ -1,11 +1,11 @@
--- The built-in factors. Assumes nothing.
+-- The built-in factors.
 use Rattle.std.specs.Prelude.{ℕ, ◌-◌, ◌*◌, if◌then◌else◌, List, [], ◌∷◌, length, ◌==◌, nat_lt, slice_index}
 use Rattle.domain.specs.declared.factor.FactorNumbers.{FactorNumbers}
-use Rattle.factors.specs.Maps.{Map, has, lacks}
+use Rattle.factors.specs.Maps.{FactorMap, has, lacks}
 
 -- the warming of each refrigerant, as a multiple of carbon dioxide's
-abbrev pub warming : List ℕ
-warming =
+abbrev pub warming_potentials : List ℕ
+warming_potentials =
     3500 ∷ 1430 ∷ 4470 ∷ 124 ∷ 3220 ∷ 14800 ∷ 1340 ∷ 1370 ∷ 9810 ∷ 693 ∷ 1030 ∷ 675 ∷ 794 ∷ 92 ∷ 1640 ∷ []
 
 -- a factor of so much, per unit of this number
@@ -13,9 +13,9 @@ abbrev pub factor_per : (amount unit : ℕ) → FactorNumbers
 factor_per amount unit = record { amount = amount; unit = unit }
 
 -- grid electricity (1) in kilowatt-hours (3), and from 101 on the refrigerants in kilograms (4)
-abbrev pub built_in : Map
-built_in c =
+abbrev pub built_in_map : FactorMap
+built_in_map c =
     if c == 1 then has (factor_per 5000 3)
     else (if nat_lt c 101 then lacks c
-    else (if nat_lt (c - 101) (length warming) then has (factor_per (slice_index warming (c - 101) * 10000) 4)
+    else (if nat_lt (c - 101) (length warming_potentials) then has (factor_per (slice_index warming_potentials (c - 101) * 10000) 4)
     else lacks c))

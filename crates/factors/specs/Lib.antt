@@ -2,4 +2,4 @@ pub mod Maps
 pub mod BuiltIn
 pub mod Lists
 pub mod Layers
-pub mod Texts
+pub mod LackTexts

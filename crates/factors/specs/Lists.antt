@@ -1,19 +1,19 @@
--- A project's list of factors. Assumes nothing.
+-- A project's list of factors.
 use Rattle.std.specs.Prelude.{ℕ, if◌then◌else◌, ◌&&◌, List, [], ◌∷◌, ◌==◌, Option, Some, None}
 use Rattle.domain.specs.declared.factor.FactorNumbers.{FactorNumbers}
 use Rattle.domain.specs.declared.factor.FactorRow.{FactorRow}
-use Rattle.domain.specs.Factors.{factor_in_range}
-use Rattle.factors.specs.Maps.{Answer, Map, has, lacks}
+use Rattle.domain.specs.Factors.{is_factor_in_range}
+use Rattle.factors.specs.Maps.{FactorAnswer, FactorMap, has, lacks}
 
 -- the factor of a row, if it has the code c and its numbers are in range
 abbrev pub row_factor : FactorRow → ℕ → Option FactorNumbers
-row_factor row c = if row.code == c && factor_in_range row.factor then Some row.factor else None
+row_factor row c = if row.code == c && is_factor_in_range row.factor then Some row.factor else None
 
-abbrev pub or_next : Option FactorNumbers → Answer → Answer
+abbrev pub or_next : Option FactorNumbers → FactorAnswer → FactorAnswer
 or_next (Some f) next = has f
 or_next None next = next
 
 -- the first row that has such a factor answers
-abbrev pub listed : List FactorRow → Map
-listed [] c = lacks c
-listed (row ∷ rows) c = or_next (row_factor row c) (listed rows c)
+abbrev pub list_map : List FactorRow → FactorMap
+list_map [] c = lacks c
+list_map (row ∷ rows) c = or_next (row_factor row c) (list_map rows c)

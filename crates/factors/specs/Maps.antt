@@ -1,4 +1,4 @@
--- What a source of factors means. Assumes nothing.
+-- What a source of factors means.
 use Rattle.std.specs.Prelude.{ℕ, Ok, Err, Result}
 use Rattle.domain.specs.declared.factor.Factor.{Factor}
 use Rattle.domain.specs.declared.factor.FactorNumbers.{FactorNumbers}
@@ -6,13 +6,13 @@ use Rattle.domain.specs.Factors.{factor_numbers}
 use Rattle.factors.specs.declared.lack.Lack.{Lack}
 
 -- what is answered for a code: a factor, by its numbers, or the code that is lacking
-pub data Answer : Type 0 where
-  has : (factor : FactorNumbers) → Answer
-  lacks : (code : ℕ) → Answer
+pub data FactorAnswer : Type 0 where
+  has : (factor : FactorNumbers) → FactorAnswer
+  lacks : (code : ℕ) → FactorAnswer
 
-abbrev pub Map : Type 0
-Map = ℕ → Answer
+abbrev pub FactorMap : Type 0
+FactorMap = ℕ → FactorAnswer
 
-abbrev pub told : Result Factor Lack → Answer
-told (Ok f) = has (factor_numbers f)
-told (Err l) = lacks l.code
+abbrev pub factor_answer : Result Factor Lack → FactorAnswer
+factor_answer (Ok f) = has (factor_numbers f)
+factor_answer (Err l) = lacks l.code

@@ -1,5 +1,5 @@
-// The built-in factors where a source has none.
-ghost use Rattle.factors.specs.Layers.{with_defaults};
+//! The built-in factors where a source has none.
+ghost use Rattle.factors.specs.Layers.{defaults_map};
 
 use crate::lack::Lack;
 use crate::source::FactorSource;
@@ -12,7 +12,7 @@ pub struct Defaults<S> {
 }
 
 impl<S: FactorSource> FactorSource for Defaults<S> {
-    ghost known = { λ s. with_defaults (S.known s.below) };
+    ghost factor_map = { λ s. defaults_map (S.factor_map s.below) };
 
     // Where both lack the code, it is the source below that says what is lacking.
     fn factor(&self, code: u32) -> Result<Factor, Lack> {

@@ -1,20 +1,20 @@
-// A project's own factors.
+//! A project's own factors.
 ghost use Rattle.std.specs.Prelude.{◌≡◌, option_map};
 ghost use Rattle.domain.specs.Factors.{factor_numbers};
-ghost use Rattle.factors.specs.Lists.{listed, row_factor};
+ghost use Rattle.factors.specs.Lists.{list_map, row_factor};
 
 use crate::lack::Lack;
 use crate::source::FactorSource;
 use domain::{Factor, FactorRow};
 
-// Rows in the caller's memory. The first that is in range and has the code answers.
+/// Rows in the caller's memory. The first that is in range and has the code answers.
 #[derive(Clone, Copy, Debug, PartialEq, Eq)]
 pub struct ProjectList<'a> {
     pub rows: &'a [FactorRow],
 }
 
 impl<'a> FactorSource for ProjectList<'a> {
-    ghost known = { λ s. listed s.rows.now };
+    ghost factor_map = { λ s. list_map s.rows.now };
 
     fn factor(&self, code: u32) -> Result<Factor, Lack> {
         for row in self.rows {
@@ -27,7 +27,7 @@ impl<'a> FactorSource for ProjectList<'a> {
 }
 
 // The factor of a row, if it has the code and its numbers are in range.
-#[tactic(auto, using(crate::proofs::Listed::in_range))]
+#[tactic(auto, using(crate::proofs::ListRows::in_range))]
 fn factor_of(row: &FactorRow, code: u32) -> Option<Factor>
     ensures { option_map factor_numbers result ≡ row_factor row.now code }
 {

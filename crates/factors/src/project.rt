@@ -1,4 +1,4 @@
-// The factors of a project.
+//! The factors of a project.
 ghost use Rattle.factors.specs.Layers.{project_map};
 
 use crate::defaults::Defaults;
@@ -8,14 +8,14 @@ use crate::recycled::Recycled;
 use crate::source::FactorSource;
 use domain::{Factor, FactorRow};
 
-// Recycled material, over the built-in factors, over the rows of the project's own list.
+/// Recycled material, over the built-in factors, over the rows of the project's own list.
 #[derive(Clone, Copy, Debug, PartialEq, Eq)]
 pub struct ProjectFactors<'a> {
     pub rows: &'a [FactorRow],
 }
 
 impl<'a> FactorSource for ProjectFactors<'a> {
-    ghost known = { λ s. project_map s.rows.now };
+    ghost factor_map = { λ s. project_map s.rows.now };
 
     fn factor(&self, code: u32) -> Result<Factor, Lack> {
         let list = ProjectList { rows: self.rows };

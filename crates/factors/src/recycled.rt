@@ -1,7 +1,7 @@
-// Recycled material, at half of the new material's factor.
+//! Recycled material, at half of the new material's factor.
 ghost use Rattle.std.specs.Prelude.{◌≡◌};
 ghost use Rattle.domain.specs.Factors.{factor_numbers};
-ghost use Rattle.factors.specs.Layers.{halved, with_recycled};
+ghost use Rattle.factors.specs.Layers.{half_factor, recycled_map};
 
 use crate::lack::Lack;
 use crate::source::FactorSource;
@@ -19,7 +19,7 @@ pub struct Recycled<S> {
 }
 
 impl<S: FactorSource> FactorSource for Recycled<S> {
-    ghost known = { λ s. with_recycled (S.known s.below) };
+    ghost factor_map = { λ s. recycled_map (S.factor_map s.below) };
 
     fn factor(&self, code: u32) -> Result<Factor, Lack> {
         if code <= RECYCLED || code > LAST_RECYCLED {
@@ -34,14 +34,14 @@ impl<S: FactorSource> FactorSource for Recycled<S> {
 }
 
 fn halved(new: Factor) -> Factor
-    ensures { factor_numbers result ≡ halved (factor_numbers new) }
+    ensures { factor_numbers result ≡ half_factor (factor_numbers new) }
 {
     let half = Ratio {
         numerator: i64::from(new.amount),
         divisor: 2,
     };
     Factor {
-        amount: half.nearest() as u32,
+        amount: half.round() as u32,
         unit: new.unit,
     }
 }

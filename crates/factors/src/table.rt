@@ -1,5 +1,5 @@
-// The built-in table: grid electricity and the refrigerants.
-ghost use Rattle.factors.specs.BuiltIn.{built_in};
+//! The built-in table: grid electricity and the refrigerants.
+ghost use Rattle.factors.specs.BuiltIn.{built_in_map};
 
 use crate::lack::Lack;
 use crate::source::FactorSource;
@@ -38,7 +38,7 @@ const WARMING_POTENTIALS: [u32; 15] = [
 pub struct BuiltIn;
 
 impl FactorSource for BuiltIn {
-    ghost known = { λ _. built_in };
+    ghost factor_map = { λ _. built_in_map };
 
     fn factor(&self, code: u32) -> Result<Factor, Lack> {
         if code == ELECTRICITY {

@@ -1,8 +1,8 @@
--- That reading a feed comes to an end. Assumes nothing.
+-- That reading a feed comes to an end.
 use Rattle.std.proofs.Common.{ℕ, ◌-◌, ◌<◌, length, ap, arith}
 use Rattle.feed.specs.declared.reader.Part.{Part}
 use Rattle.feed.specs.declared.reader.Reader.{Reader}
-use Rattle.feed.specs.Feeds.{Hands}
+use Rattle.feed.specs.Feeds.{HandsOut}
 use Rattle.feed.proofs.Running.{hands_note}
 
 -- how many bytes a reader has still to hand out
@@ -10,7 +10,7 @@ abbrev pub bytes_left : Reader → ℕ
 bytes_left r = length r.feed.now - r.start
 
 -- every note leaves fewer of them
-pub fewer_left : {r : Reader} {p : Part} {t : Reader} → Hands r p t → bytes_left t < bytes_left r
+pub fewer_left : {r : Reader} {p : Part} {t : Reader} → HandsOut r p t → bytes_left t < bytes_left r
 fewer_left {r} {p} {t} step =
     let whole = ap length step.over in
     omega (arith, t.start_within, step.bytes, whole, (hands_note r p t step).head)

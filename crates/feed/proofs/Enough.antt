@@ -1,10 +1,10 @@
--- One byte more than a feed may have shows that it is too long. Assumes nothing.
+-- One byte more than a feed may have shows that it is too long.
 use Rattle.std.proofs.Common.{◌≡◌, ℕ, ◌<◌, ◌⊎◌, List, [], ◌++◌, length, take, Some, None, Option, IfSome, inl, inr, ◌∙◌, subst, ⊎_elim, arith}
 use Rattle.std.proofs.lemmas.List.{length-take-le, take_all}
 use Rattle.std.proofs.str.Laws.{order}
 use Rattle.std.specs.Io.KnownBytes.{Appends}
 use Rattle.std.specs.Option.{option_map}
-use Rattle.feed.specs.Writing.{Written}
+use Rattle.feed.specs.Writing.{WritesText}
 
 -- what is read up to there, where it is known what a reader still has
 pub read_to : (remaining : Option (List ℕ)) (bytes : List ℕ) {n : ℕ} {before : List ℕ} → n ≡ 65537 → before ≡ [] → IfSome (option_map (take n) remaining) (λ more. bytes ≡ before ++ more) → IfSome remaining (λ feed. bytes ≡ take 65537 feed)
@@ -19,7 +19,7 @@ all_or_long feed =
     (order (length feed) 65537)
 
 -- what is written for the bytes that were read is written for the whole feed, where it serves for it
-pub written_for : (P Q : List ℕ → List ℕ → Type 0) → ((feed text : List ℕ) → P (take 65537 feed) text → Q feed text) → (remaining held holds : Option (List ℕ)) (bytes text : List ℕ) → IfSome remaining (λ feed. bytes ≡ take 65537 feed) → P bytes text → Appends held holds text → IfSome remaining (λ feed. Written (Q feed) held holds)
+pub written_for : (P Q : List ℕ → List ℕ → Type 0) → ((feed text : List ℕ) → P (take 65537 feed) text → Q feed text) → (remaining held holds : Option (List ℕ)) (bytes text : List ℕ) → IfSome remaining (λ feed. bytes ≡ take 65537 feed) → P bytes text → Appends held holds text → IfSome remaining (λ feed. WritesText (Q feed) held holds)
 written_for P Q serves None held holds bytes text read says appended = tt
 written_for P Q serves (Some feed) held holds bytes text read says appended =
     record { text = text; says = serves feed text (subst (λ bs. P bs text) read says); appended = appended }

@@ -4,5 +4,5 @@ pub mod Running
 pub mod Ending
 pub mod Beginning
 pub mod Looping
-pub mod Rows
+pub mod FactorRows
 pub mod Enough

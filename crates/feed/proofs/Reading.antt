@@ -1,30 +1,30 @@
--- Reading the first note of bytes, step by step. Assumes nothing.
+-- Reading the first note of bytes, step by step.
 use Rattle.std.proofs.Common.{◌≡◌, ℕ, ◌≤◌, List, ◌++◌, length, Some, Result, sym, ap, subst, arith}
 use Rattle.refusals.specs.declared.refusal.Refusal.{Refusal}
-use Rattle.refusals.specs.Refusals.{Conditions, Decided}
-use Rattle.refusals.proofs.Deciding.{decided_on, decided_off}
+use Rattle.refusals.specs.Refusals.{Conditions, GivesOrRefuses}
+use Rattle.refusals.proofs.Deciding.{gives_after, gives_before}
 use Rattle.feed.specs.declared.kind.Kind.{Kind}
-use Rattle.feed.specs.Frames.{Framed, first_note}
-use Rattle.feed.specs.Kinds.{kind_in, IsOf}
-use Rattle.feed.specs.Readings.{framing, form, Reads}
+use Rattle.feed.specs.Frames.{IsFramed, first_note}
+use Rattle.feed.specs.Kinds.{kind_of_note, IsOfKind}
+use Rattle.feed.specs.Readings.{framing_conditions, form_conditions, Reads}
 use Rattle.feed.proofs.Framing.{one_first, framed_one, first_one}
 
 -- what first_note gives has a length and a kind
-pub headed : {bs note : List ℕ} → Framed bs → note ≡ first_note bs → 4 ≤ length note
+pub headed : {bs note : List ℕ} → IsFramed bs → note ≡ first_note bs → 4 ≤ length note
 headed {bs} framed is = omega (arith, (one_first bs framed).head, ap length is)
 
 module _ {X : Type 0} (Wanted : Kind → Type 0) (Value : List ℕ → X → Type 0) (bs : List ℕ) where
   -- what is answered to the first note of framed bytes, is answered to the bytes
-  pub reads_note : (r : Result X Refusal) {note : List ℕ} {kind : Kind} → Framed bs → note ≡ first_note bs → IsOf kind note → Decided (form Wanted (Some kind) note) (Value note) r → Reads Wanted Value bs r
+  pub reads_note : (r : Result X Refusal) {note : List ℕ} {kind : Kind} → IsFramed bs → note ≡ first_note bs → IsOfKind kind note → GivesOrRefuses (form_conditions Wanted (Some kind) note) (Value note) r → Reads Wanted Value bs r
   reads_note r {note} {kind} framed is of decided =
-      decided_on (Value (first_note bs)) (framing bs) (form Wanted (kind_in (first_note bs)) (first_note bs)) (framed, tt) r
-      (subst (λ n. Decided (form Wanted (kind_in n) n) (Value n) r) is (subst (λ k. Decided (form Wanted k note) (Value note) r) (sym of) decided))
+      gives_after (Value (first_note bs)) (framing_conditions bs) (form_conditions Wanted (kind_of_note (first_note bs)) (first_note bs)) (framed, tt) r
+      (subst (λ n. GivesOrRefuses (form_conditions Wanted (kind_of_note n) n) (Value n) r) is (subst (λ k. GivesOrRefuses (form_conditions Wanted k note) (Value note) r) (sym of) decided))
 
   -- a note by itself is read as it is in front of other bytes
-  pub reads_alone : (r : Result X Refusal) → Reads Wanted Value bs r → Framed bs → Reads Wanted Value (first_note bs) r
+  pub reads_alone : (r : Result X Refusal) → Reads Wanted Value bs r → IsFramed bs → Reads Wanted Value (first_note bs) r
   reads_alone r reads framed =
       let one = one_first bs framed in
-      let asks : List ℕ → Conditions = λ note. form Wanted (kind_in note) note in
-      subst (λ note. Decided (framing (first_note bs) ++ asks note) (Value note) r) (sym (first_one (first_note bs) one))
-      (decided_on (Value (first_note bs)) (framing (first_note bs)) (asks (first_note bs)) (framed_one (first_note bs) one, tt) r
-      (decided_off (Value (first_note bs)) (framing bs) (asks (first_note bs)) (framed, tt) r reads))
+      let asks : List ℕ → Conditions = λ note. form_conditions Wanted (kind_of_note note) note in
+      subst (λ note. GivesOrRefuses (framing_conditions (first_note bs) ++ asks note) (Value note) r) (sym (first_one (first_note bs) one))
+      (gives_after (Value (first_note bs)) (framing_conditions (first_note bs)) (asks (first_note bs)) (framed_one (first_note bs) one, tt) r
+      (gives_before (Value (first_note bs)) (framing_conditions bs) (asks (first_note bs)) (framed, tt) r reads))

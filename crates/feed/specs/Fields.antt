@@ -1,11 +1,11 @@
--- The numbers in a note: unsigned, the lowest byte first. Assumes nothing.
+-- The numbers in a note: unsigned, the lowest byte first.
 use Rattle.std.specs.Prelude.{ℕ, ◌+◌, ◌*◌, List, [], ◌∷◌, take, drop}
 
 -- the value of bytes, each of which weighs 256 times the one before
-abbrev pub little : List ℕ → ℕ
-little [] = 0
-little (b ∷ bs) = b + 256 * little bs
+abbrev pub little_endian_number : List ℕ → ℕ
+little_endian_number [] = 0
+little_endian_number (b ∷ bs) = b + 256 * little_endian_number bs
 
 -- the value of the n bytes that begin at the offset `at`
 unfoldable pub field : List ℕ → ℕ → ℕ → ℕ
-field bs at n = little (take n (drop at bs))
+field bs at n = little_endian_number (take n (drop at bs))

@@ -1,10 +1,10 @@
--- What a note is, before its fields are looked at. Assumes nothing.
+-- What a note is, before its fields are looked at.
 use Rattle.std.specs.Prelude.{◌≡◌, ℕ, ◌≤◌, List, length, take, drop}
 use Rattle.feed.specs.declared.frame.Head.{Head}
 use Rattle.feed.specs.Fields.{field}
 
 -- the bytes begin with a whole note: four bytes are there, and the length that the first two give is at least 4 and no more than there are
-pub record Framed (bs : List ℕ) : Type 0 where
+pub record IsFramed (bs : List ℕ) : Type 0 where
   pub head : 4 ≤ length bs
   pub least : 4 ≤ field bs 0 2
   pub whole : field bs 0 2 ≤ length bs
@@ -14,11 +14,11 @@ unfoldable pub first_note : List ℕ → List ℕ
 first_note bs = take (field bs 0 2) bs
 
 -- what comes after it
-abbrev pub after_first : List ℕ → List ℕ
-after_first bs = drop (length (first_note bs)) bs
+abbrev pub rest_after_first : List ℕ → List ℕ
+rest_after_first bs = drop (length (first_note bs)) bs
 
 -- the bytes are one note, and nothing more
-pub record OneNote (note : List ℕ) : Type 0 where
+pub record IsOneNote (note : List ℕ) : Type 0 where
   pub head : 4 ≤ length note
   pub sized : field note 0 2 ≡ length note
 

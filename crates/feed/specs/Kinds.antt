@@ -1,4 +1,4 @@
--- The kinds of notes: their numbers, their lengths and their words. Assumes nothing.
+-- The kinds of notes: their numbers, their lengths and their words.
 use Rattle.std.specs.Prelude.{◌≡◌, ℕ, if◌then◌else◌, ◌==◌, List, [], ◌∷◌, codes, Option, Some, None}
 use Rattle.feed.specs.declared.kind.Kind.{Kind}
 use Rattle.feed.specs.declared.kind.Kind.TheVariants.{Building, Factor, Counted, Measured, Withdrawal}
@@ -40,9 +40,9 @@ abbrev pub kind_of : ℕ → Option Kind
 kind_of n = kind_among n kinds
 
 -- the kind of a note, if it is of one that there is
-abbrev pub kind_in : List ℕ → Option Kind
-kind_in note = kind_of (note_kind note)
+abbrev pub kind_of_note : List ℕ → Option Kind
+kind_of_note note = kind_of (note_kind note)
 
 -- a note is of this kind
-abbrev pub IsOf : Kind → List ℕ → Type 0
-IsOf kind note = kind_in note ≡ Some kind
+abbrev pub IsOfKind : Kind → List ℕ → Type 0
+IsOfKind kind note = kind_of_note note ≡ Some kind

@@ -1,4 +1,4 @@
--- What a feed opens with: a building, and the factor rows after it. Assumes nothing.
+-- What a feed opens with: a building, and the factor rows after it.
 use Rattle.std.specs.Prelude.{ℕ, List, Ok, Err, Result, vec_items}
 use Rattle.refusals.specs.declared.refusal.Refusal.{Refusal}
 use Rattle.domain.specs.declared.building.Building.{Building}
@@ -7,31 +7,31 @@ use Rattle.feed.specs.declared.opening.Opening.{Opening}
 use Rattle.feed.specs.declared.opening.OpeningError.{OpeningError}
 use Rattle.feed.specs.declared.opening.OpeningError.TheVariants.{Refused, OutOfMemory}
 use Rattle.feed.specs.declared.reader.Reader.{Reader}
-use Rattle.feed.specs.Feeds.{Answer, left_of, ReaderRun}
-use Rattle.feed.specs.Frames.{after_first}
+use Rattle.feed.specs.Feeds.{ReaderAnswer, rest_of, ReaderHistory}
+use Rattle.feed.specs.Frames.{rest_after_first}
 use Rattle.feed.specs.Readings.{ReadsBuilding}
-use Rattle.feed.specs.Rows.{RowNotes, RowsRead}
+use Rattle.feed.specs.FactorRows.{StartsWithRows, ReadsEachRow}
 
 -- a feed opens with the building b, which is its first note, and the notes of factor rows after it; what comes after these is left
 pub record OpensWith (feed : List ℕ) (b : Building) (notes : List (List ℕ)) (left : List ℕ) : Type 0 where
   pub building : ReadsBuilding feed (Ok b)
-  pub rows : RowNotes (after_first feed) notes left
+  pub rows : StartsWithRows (rest_after_first feed) notes left
 
 -- what a feed opens with, what reading each of its factor rows answers, and the reader behind them: it is one of the feed, and has handed out just these
-pub record OpenedAs (feed : List ℕ) (b : Building) (answers : List (Result FactorRow Refusal)) (rest : Reader) : Type 0 where
+pub record IsOpening (feed : List ℕ) (b : Building) (answers : List (Result FactorRow Refusal)) (rest : Reader) : Type 0 where
   pub notes : List (List ℕ)
-  pub opens : OpensWith feed b notes (left_of rest)
-  pub read : RowsRead notes answers
-  pub calls : List Answer
-  pub run : ReaderRun feed calls rest
+  pub opens : OpensWith feed b notes (rest_of rest)
+  pub read : ReadsEachRow notes answers
+  pub calls : List ReaderAnswer
+  pub history : ReaderHistory feed calls rest
 
 -- an error says that memory does not suffice
-abbrev pub ForMemory : OpeningError → Type 0
-ForMemory (Refused f) = ⊥
-ForMemory (OutOfMemory e) = Unit {0}
+abbrev pub IsOutOfMemory : OpeningError → Type 0
+IsOutOfMemory (Refused f) = ⊥
+IsOutOfMemory (OutOfMemory e) = Unit {0}
 
 -- r is what reading it answers, where memory suffices
 abbrev pub ReadsOpening : List ℕ → Result Opening OpeningError → Type 0
-ReadsOpening feed (Ok o) = OpenedAs feed o.building (vec_items o.rows) o.rest
+ReadsOpening feed (Ok o) = IsOpening feed o.building (vec_items o.rows) o.rest
 ReadsOpening feed (Err (Refused f)) = ReadsBuilding feed (Err f)
 ReadsOpening feed (Err (OutOfMemory e)) = Unit {0}

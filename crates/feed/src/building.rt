@@ -1,27 +1,27 @@
-// A note that is a building.
+//! A note that is a building.
 ghost use Rattle.std.specs.Prelude.{◌≡◌, ◌≤◌, length};
-ghost use Rattle.feed.specs.Buildings.{building_numbers};
-ghost use Rattle.feed.specs.Frames.{Framed, first_note};
+ghost use Rattle.feed.specs.BuildingFields.{building_of_note};
+ghost use Rattle.feed.specs.Frames.{IsFramed, first_note};
 ghost use Rattle.feed.specs.Kinds.{note_length};
 ghost use Rattle.feed.specs.declared.kind.Kind.TheVariants.{Building as BuildingNote};
 ghost use Rattle.feed.specs.Readings.{ReadsBuilding};
 
-use crate::content::{Content, read, sized};
+use crate::content::{Content, read, checked_length};
 use crate::kind::Kind;
-use crate::little::number_at;
+use crate::little_endian::number_at;
 use domain::{Building, BuildingNumbers};
 use refusals::Refusal;
 
-// The building that the bytes begin with.
+/// The building that the bytes begin with.
 pub fn read_building(bytes: &[u8]) -> Result<Building, Refusal>
     ensures value { ReadsBuilding bytes.now result }
-    ensures alone { Framed bytes.now → ReadsBuilding (first_note bytes.now) result }
+    ensures alone { IsFramed bytes.now → ReadsBuilding (first_note bytes.now) result }
 {
     read(bytes)
 }
 
 impl Content for Building {
-    ghost use Rattle.feed.specs.Buildings.{IsBuilding};
+    ghost use Rattle.feed.specs.BuildingFields.{IsBuilding};
 
     ghost Wanted = { λ kind. kind ≡ BuildingNote };
 
@@ -29,7 +29,7 @@ impl Content for Building {
 
     fn of_note(kind: Kind, note: &[u8]) -> Result<Building, Refusal> {
         match kind {
-            Kind::Building => numbers(sized(kind, note)?).try_into(),
+            Kind::Building => numbers(checked_length(kind, note)?).try_into(),
             _ => Err(Refusal::UnwantedKind),
         }
     }
@@ -37,7 +37,7 @@ impl Content for Building {
 
 fn numbers(note: &[u8]) -> BuildingNumbers
     requires { note_length BuildingNote ≤ length note.now }
-    ensures { result ≡ building_numbers note.now }
+    ensures { result ≡ building_of_note note.now }
 {
     BuildingNumbers {
         area: number_at(note, 4),

@@ -1,12 +1,12 @@
-// An entry as it was sent: none of its numbers is judged here. A measured quantity is kept by its bits, which a floating number would lose.
+//! An entry as it was sent: none of its numbers is judged here. A measured quantity is kept by its bits, which a floating number would lose.
 ghost use Rattle.std.specs.Prelude.{◌≡◌, ◌≤◌, length, Some};
 ghost use Rattle.feed.specs.declared.kind.Kind.{Kind};
-ghost use Rattle.feed.specs.Entries.{quantity_offset, entry_kind, entry_head, kind_quantity, sent_entry};
+ghost use Rattle.feed.specs.EntryFields.{quantity_offset, entry_kind, entry_head_of_note, kind_quantity, decoded_entry};
 ghost use Rattle.feed.specs.Kinds.{note_length};
 
 use crate::kind::Kind;
-use crate::little::number_at;
-use crate::sent::CONTENT;
+use crate::little_endian::number_at;
+use crate::sent_note::CONTENT;
 use domain::{Entry, EntryHead, Quantity};
 use std::num::f64_from_bits_with_nan;
 
@@ -19,12 +19,12 @@ const CODE: usize = SPAN + 2;
 
 const QUANTITY: usize = CODE + 4;
 
-// How much an entry is for, as it was sent.
+/// How much an entry is for, as it was sent.
 #[derive(Clone, Copy, Debug, PartialEq, Eq)]
 pub enum SentQuantity {
-    // in thousandths of a unit
+    /// in thousandths of a unit
     Counted(u64),
-    // the bits of a binary64 number
+    /// the bits of a binary64 number
     Measured(u64),
 }
 
@@ -35,7 +35,7 @@ pub struct SentEntry {
 }
 
 impl SentQuantity {
-    // The kind of the notes that have such a quantity.
+    /// The kind of the notes that have such a quantity.
     pub fn kind(self) -> Kind
         ensures { result ≡ entry_kind self }
     {
@@ -61,7 +61,7 @@ impl SentQuantity {
 // What an entry says before its quantity.
 pub(crate) fn head(note: &[u8]) -> EntryHead
     requires { quantity_offset ≤ length note.now }
-    ensures { result ≡ entry_head note.now }
+    ensures { result ≡ entry_head_of_note note.now }
 {
     EntryHead {
         row: number_at(note, ROW),
@@ -72,7 +72,7 @@ pub(crate) fn head(note: &[u8]) -> EntryHead
 
 // The entry as it is booked: the bits of a measured quantity are a number.
 impl From<SentEntry> for Entry {
-    ghost from_gives = { λ e r. r ≡ sent_entry e };
+    ghost from_gives = { λ e r. r ≡ decoded_entry e };
 
     fn from(e: SentEntry) -> Entry {
         let quantity = match e.quantity {

@@ -1,36 +1,36 @@
-// A note that is a row of a project's own factors.
+//! A note that is a row of a project's own factors.
 ghost use Rattle.std.specs.Prelude.{◌≡◌, ◌≤◌, length, MatchBool};
-ghost use Rattle.feed.specs.Factors.{factor_row};
-ghost use Rattle.feed.specs.Frames.{Framed, first_note};
+ghost use Rattle.feed.specs.FactorFields.{factor_row_of_note};
+ghost use Rattle.feed.specs.Frames.{IsFramed, first_note};
 ghost use Rattle.feed.specs.Kinds.{note_length};
 ghost use Rattle.feed.specs.declared.kind.Kind.TheVariants.{Factor as FactorNote};
 ghost use Rattle.feed.specs.Readings.{ReadsFactorRow};
-ghost use Rattle.feed.specs.Rows.{RowFirst};
+ghost use Rattle.feed.specs.FactorRows.{StartsWithRow};
 
-use crate::content::{Content, read, sized};
+use crate::content::{Content, read, checked_length};
 use crate::frame::Head;
 use crate::kind::Kind;
-use crate::little::number_at;
+use crate::little_endian::number_at;
 use domain::{Factor, FactorNumbers, FactorRow};
 use refusals::Refusal;
 
-// The factor row that the bytes begin with. One that is read is in range.
+/// The factor row that the bytes begin with. One that is read is in range.
 pub fn read_row(bytes: &[u8]) -> Result<FactorRow, Refusal>
     ensures value { ReadsFactorRow bytes.now result }
-    ensures alone { Framed bytes.now → ReadsFactorRow (first_note bytes.now) result }
+    ensures alone { IsFramed bytes.now → ReadsFactorRow (first_note bytes.now) result }
 {
     read(bytes)
 }
 
 // Whether the bytes begin with a note of this kind.
 pub(crate) fn row_is_next(bytes: &[u8]) -> bool
-    ensures { MatchBool result (RowFirst bytes.now) (RowFirst bytes.now → ⊥) }
+    ensures { MatchBool result (StartsWithRow bytes.now) (StartsWithRow bytes.now → ⊥) }
 {
     Head::read(bytes).is_ok_and(|head| head.kind == u16::from(Kind::Factor))
 }
 
 impl Content for FactorRow {
-    ghost use Rattle.feed.specs.Factors.{IsFactorRow};
+    ghost use Rattle.feed.specs.FactorFields.{IsFactorRow};
 
     ghost Wanted = { λ kind. kind ≡ FactorNote };
 
@@ -39,7 +39,7 @@ impl Content for FactorRow {
     fn of_note(kind: Kind, note: &[u8]) -> Result<FactorRow, Refusal> {
         match kind {
             Kind::Factor => {
-                let row = row(sized(kind, note)?);
+                let row = row(checked_length(kind, note)?);
                 Factor::try_from(row.factor)?;
                 Ok(row)
             }
@@ -50,7 +50,7 @@ impl Content for FactorRow {
 
 fn row(note: &[u8]) -> FactorRow
     requires { note_length FactorNote ≤ length note.now }
-    ensures { result ≡ factor_row note.now }
+    ensures { result ≡ factor_row_of_note note.now }
 {
     FactorRow {
         code: number_at(note, 4),

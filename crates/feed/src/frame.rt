@@ -1,10 +1,10 @@
-// Where the first note of given bytes ends, and what it says before its fields.
+//! Where the first note of given bytes ends, and what it says before its fields.
 ghost use Rattle.std.specs.Prelude.{◌≡◌, ◌≤◌, length};
 ghost use Rattle.feed.specs.Frames.{first_note, note_kind, IsHead};
-ghost use Rattle.feed.specs.Readings.{framing};
-ghost use Rattle.refusals.specs.Refusals.{Decided};
+ghost use Rattle.feed.specs.Readings.{framing_conditions};
+ghost use Rattle.refusals.specs.Refusals.{GivesOrRefuses};
 
-use crate::little::number_at;
+use crate::little_endian::number_at;
 use refusals::Refusal;
 
 // A note's length and its kind, two bytes each, come before its fields.
@@ -14,9 +14,9 @@ const KIND: usize = 2;
 
 pub(crate) const FIELDS: usize = 4;
 
-// The note that the bytes begin with, as a part of them.
+/// The note that the bytes begin with, as a part of them.
 pub fn first_note(bytes: &[u8]) -> Result<&[u8], Refusal>
-    ensures { Decided (framing bytes.now) (λ note. note.now ≡ first_note bytes.now) result }
+    ensures { GivesOrRefuses (framing_conditions bytes.now) (λ note. note.now ≡ first_note bytes.now) result }
 {
     if bytes.len() < FIELDS {
         return Err(Refusal::Unframed);
@@ -35,18 +35,18 @@ pub(crate) fn kind_field(note: &[u8]) -> u16
     number_at(note, KIND)
 }
 
-// What a note says before its fields.
+/// What a note says before its fields.
 #[derive(Clone, Copy, Debug, PartialEq, Eq)]
 pub struct Head {
     pub length: usize,
-    // a number, as it may be of no kind that there is
+    /// a number, as it may be of no kind that there is
     pub kind: u16,
 }
 
 impl Head {
-    // The length and the kind of the first note of the bytes.
+    /// The length and the kind of the first note of the bytes.
     pub fn read(bytes: &[u8]) -> Result<Head, Refusal>
-        ensures { Decided (framing bytes.now) (IsHead (first_note bytes.now)) result }
+        ensures { GivesOrRefuses (framing_conditions bytes.now) (IsHead (first_note bytes.now)) result }
     {
         let note = first_note(bytes)?;
         Ok(Head {

@@ -1,16 +1,27 @@
-// The feed: how notes lie end to end in bytes, what each of them says, and what a feed opens with.
+//! The feed: how notes lie end to end in bytes, what each of them says, and what a feed opens with.
 #![tactic(auto)]
 
-pub mod building;
+mod building;
 mod content;
-pub mod entry;
-pub mod factor;
-pub mod frame;
-pub mod input;
-pub mod kind;
-mod little;
-pub mod note;
-pub mod opening;
-pub mod reader;
-pub mod sent;
-mod words;
+mod entry;
+mod factor;
+mod frame;
+mod input;
+mod kind;
+mod little_endian;
+mod note;
+mod opening;
+mod reader;
+mod sent_note;
+mod note_text;
+
+pub use building::read_building;
+pub use entry::{SentEntry, SentQuantity};
+pub use factor::read_row;
+pub use frame::{Head, first_note};
+pub use input::{MAX_BYTES, read_feed};
+pub use kind::Kind;
+pub use note::Note;
+pub use opening::{Opening, OpeningError};
+pub use reader::{Part, Reader};
+pub use sent_note::{SentContent, SentNote};

@@ -1,11 +1,11 @@
-// A note of any kind.
-ghost use Rattle.feed.specs.Frames.{Framed, first_note};
-ghost use Rattle.feed.specs.Notes.{AnyKind, Says};
+//! A note of any kind.
+ghost use Rattle.feed.specs.Frames.{IsFramed, first_note};
+ghost use Rattle.feed.specs.Notes.{IsAnyKind, Says};
 ghost use Rattle.feed.specs.Readings.{Reads};
 
 use crate::content::{Content, read};
 use crate::kind::Kind;
-use crate::sent::Sent;
+use crate::sent_note::SentNote;
 use domain::{Building, FactorRow};
 use refusals::Refusal;
 
@@ -13,21 +13,21 @@ use refusals::Refusal;
 pub enum Note {
     Building(Building),
     Factor(FactorRow),
-    Sent(Sent),
+    Sent(SentNote),
 }
 
 impl Note {
-    // The first note of the bytes, whatever its kind.
+    /// The first note of the bytes, whatever its kind.
     pub fn read(bytes: &[u8]) -> Result<Note, Refusal>
-        ensures value { Reads AnyKind Says bytes.now result }
-        ensures alone { Framed bytes.now → Reads AnyKind Says (first_note bytes.now) result }
+        ensures value { Reads IsAnyKind Says bytes.now result }
+        ensures alone { IsFramed bytes.now → Reads IsAnyKind Says (first_note bytes.now) result }
     {
         read(bytes)
     }
 }
 
 impl Content for Note {
-    ghost Wanted = { AnyKind };
+    ghost Wanted = { IsAnyKind };
 
     ghost Says = { Says };
 
@@ -36,7 +36,7 @@ impl Content for Note {
             Kind::Building => Building::of_note(kind, note).map(Note::Building),
             Kind::Factor => FactorRow::of_note(kind, note).map(Note::Factor),
             Kind::Counted | Kind::Measured | Kind::Withdrawal => {
-                Sent::of_note(kind, note).map(Note::Sent)
+                SentNote::of_note(kind, note).map(Note::Sent)
             }
         }
     }

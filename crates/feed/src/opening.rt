@@ -1,6 +1,6 @@
-// What a feed opens with.
+//! What a feed opens with.
 ghost use Rattle.std.specs.Prelude.{◌≡◌};
-ghost use Rattle.feed.specs.Openings.{ForMemory, ReadsOpening};
+ghost use Rattle.feed.specs.Openings.{IsOutOfMemory, ReadsOpening};
 ghost use Rattle.feed.specs.declared.opening.OpeningError.TheVariants.{Refused};
 
 use crate::building::read_building;
@@ -10,17 +10,17 @@ use domain::{Building, FactorRow};
 use refusals::Refusal;
 use std::alloc::{AllocError, AllocFailed, Global};
 
-// A building, and the factor rows after it.
+/// A building, and the factor rows after it.
 #[derive(Debug, Drop)]
 pub struct Opening<'a> {
     pub building: Building,
-    // what reading each of the rows answered, in their order
+    /// what reading each of the rows answered, in their order
     pub rows: Vec<Result<FactorRow, Refusal>>,
-    // what comes after them
+    /// what comes after them
     pub rest: Reader<'a>,
 }
 
-// Why there is no opening: the first note is no building, or there is no memory for the rows.
+/// Why there is no opening: the first note is no building, or there is no memory for the rows.
 #[derive(Debug, Drop)]
 pub enum OpeningError {
     Refused(Refusal),
@@ -36,7 +36,7 @@ impl From<Refusal> for OpeningError {
 }
 
 impl<T: Drop> From<AllocFailed<T>> for OpeningError {
-    ghost from_gives = { λ _ e. ForMemory e };
+    ghost from_gives = { λ _ e. IsOutOfMemory e };
 
     fn from(failed: AllocFailed<T>) -> OpeningError {
         OpeningError::OutOfMemory(failed.into())
@@ -44,8 +44,8 @@ impl<T: Drop> From<AllocFailed<T>> for OpeningError {
 }
 
 impl<'a> Opening<'a> {
-    // The first note is the building, and the notes of the kind of factor rows after it are the rows. Those that are refused are
-    // among them: what becomes of them the caller says.
+    /// The first note is the building, and the notes of the kind of factor rows after it are the rows. Those that are refused are
+    /// among them: what becomes of them the caller says.
     pub fn read(heap: Global, feed: &'a [u8]) -> Result<Opening<'a>, OpeningError>
         ensures { ReadsOpening feed.now result }
     {

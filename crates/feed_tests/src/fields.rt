@@ -1,9 +1,6 @@
-// Each refusal of a building, of a factor row and of a note, and each field at the ends of its range and one beyond.
+//! Each refusal of a building, of a factor row and of a note, and each field at the ends of its range and one beyond.
 use domain::{Factor, FactorNumbers};
-use feed::building::read_building;
-use feed::factor::read_row;
-use feed::frame::Head;
-use feed::note::Note;
+use feed::{Head, Note, read_building, read_row};
 use refusals::Refusal;
 use std::test::Fail;
 

@@ -1,5 +1,5 @@
-// The fullest feeds, for which no clause says that memory suffices; and reading and writing that fail.
-use feed::input::MOST_BYTES;
+//! The fullest feeds, for which no clause says that memory suffices; and reading and writing that fail.
+use feed::MAX_BYTES;
 use listing::write_listing;
 use pages::Figure;
 use report::{page_lines, write_report};
@@ -26,7 +26,7 @@ fn full_feed(heap: Global, note: &[u8], count: usize) -> Result<Vec<u8>, AllocEr
     for _ in 0..count {
         feed.extend_from_slice(note)?;
     }
-    feed.resize(MOST_BYTES, 0)?;
+    feed.resize(MAX_BYTES, 0)?;
     Ok(feed)
 }
 
@@ -41,7 +41,7 @@ fn listing_lines(heap: Global, count: usize, length: usize, words: &str) -> io::
         place = place.wrapping_add(1);
         start = start.wrapping_add(length);
     }
-    let left = MOST_BYTES.wrapping_sub(start);
+    let left = MAX_BYTES.wrapping_sub(start);
     writeln!(text, "{place} at={start} unframed left={left} refused 1")?;
     Ok(text)
 }

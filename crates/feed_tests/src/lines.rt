@@ -1,4 +1,4 @@
-// Listings, written by hand from the format.
+//! Listings, written by hand from the format.
 use listing::listing;
 use std::test::Fail;
 

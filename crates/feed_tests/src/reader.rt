@@ -1,5 +1,5 @@
-// The sample feed, cut short at every length.
-use feed::reader::Reader;
+//! The sample feed, cut short at every length.
+use feed::Reader;
 use refusals::Refusal;
 use std::test::Fail;
 
@@ -42,7 +42,7 @@ fn cut_at_every_length(rt: HostRuntime) -> Result<(), Fail> {
         let expected = if n == end { Ok(None) } else { Err(1) };
         for _ in 0..3 {
             assert_eq!(rt; reader.next().map_err(Refusal::number), expected);
-            let left = reader.left();
+            let left = reader.rest();
             assert_eq!(rt; left.place, notes.wrapping_add(1));
             assert_eq!(rt; left.start, end);
             assert_eq!(rt; left.bytes.len().wrapping_add(end), n);

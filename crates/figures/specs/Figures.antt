@@ -1,17 +1,17 @@
--- Worked figures, which the definitions have to give. Assumes nothing.
+-- Worked figures, which the definitions have to give.
 use Rattle.std.specs.Prelude.{◌≡◌, ℕ, false, List, [], ◌∷◌, pos, neg_ℤ}
 use Rattle.std.specs.Float.{binary64}
 use Rattle.std.specs.Float.Ieee.{round}
-use Rattle.refusals.specs.Refusals.{Kept}
-use Rattle.factors.specs.BuiltIn.{factor_per, built_in}
-use Rattle.factors.specs.Layers.{with_recycled}
-use Rattle.factors.specs.Maps.{Map, has}
+use Rattle.refusals.specs.Refusals.{AllHold}
+use Rattle.factors.specs.BuiltIn.{factor_per, built_in_map}
+use Rattle.factors.specs.Layers.{recycled_map}
+use Rattle.factors.specs.Maps.{FactorMap, has}
 use Rattle.domain.specs.declared.entry.Entry.{Entry}
 use Rattle.domain.specs.declared.entry.Quantity.TheVariants.{Counted, Measured}
-use Rattle.booking.specs.Booked.{content, booked}
-use Rattle.booking.specs.Quantities.{QuantityInRange, booked_thousandths}
+use Rattle.booking.specs.Booking.{booking_conditions, booked_line}
+use Rattle.booking.specs.Quantities.{IsQuantityInRange, booked_thousandths}
 use Rattle.figures.specs.Headings.{Prints}
-use Rattle.figures.specs.Withdrawals.{RefusedBy, NoneCounts, CountsAt}
+use Rattle.figures.specs.Withdrawals.{IsRefusedBy, NoneCounts, CountsAt}
 
 -- an entry of so many counted thousandths
 abbrev pub entry_of : (row span code thousandths : ℕ) → Entry
@@ -19,13 +19,13 @@ entry_of row span code thousandths =
     record { head = record { row = row; span = span; code = code }; quantity = Counted thousandths }
 
 -- it is booked, in a building of y years, at so many grams
-abbrev pub ComesTo : ℕ → Map → Entry → ℕ → Type 0
-ComesTo y known e grams = Kept (content y known e) × ((booked y known e).grams ≡ grams)
+abbrev pub ComesTo : ℕ → FactorMap → Entry → ℕ → Type 0
+ComesTo y factor_map e grams = AllHold (booking_conditions y factor_map e) × ((booked_line y factor_map e).grams ≡ grams)
 
 -- the binary64 number nearest to n / d is booked at so many thousandths
 abbrev pub Measures : (n d thousandths : ℕ) → Type 0
 Measures n d thousandths =
-    QuantityInRange (Measured (round binary64 false n d)) × (booked_thousandths (Measured (round binary64 false n d)) ≡ thousandths)
+    IsQuantityInRange (Measured (round binary64 false n d)) × (booked_thousandths (Measured (round binary64 false n d)) ≡ thousandths)
 
 -- a thousandth of a tonne at 5,000 and at 4,999; 0.0625 and 0.0624 measured; a kilogram of R-134a in equipment of 15 years; 30 tonnes over 500 kilometres at 1,290; recycled material, the new material being at 5;
 -- three headings of 400 grams, and two of 500 and -1,000; of a number that is withdrawn at revision 2, an entry at 1 that is refused, what counts after it, and what counts after one at 3
@@ -35,17 +35,17 @@ figures =
     ∷ ComesTo 1 (λ c. has (factor_per 4999 1)) (entry_of 1 0 7 1) 0
     ∷ Measures 625 10000 63
     ∷ Measures 624 10000 62
-    ∷ ComesTo 50 built_in (entry_of 21 15 102 1000) 4766667
+    ∷ ComesTo 50 built_in_map (entry_of 21 15 102 1000) 4766667
     ∷ ComesTo 50 (λ c. has (factor_per 1290 5)) (entry_of 2 500 7 30000) 1935000
-    ∷ (with_recycled (λ c. has (factor_per 5 1)) 1000007 ≡ has (factor_per 3 1))
+    ∷ (recycled_map (λ c. has (factor_per 5 1)) 1000007 ≡ has (factor_per 3 1))
     ∷ Prints (pos 400 ∷ (pos 400 ∷ (pos 400 ∷ []))) (pos 0 ∷ (pos 1 ∷ (pos 0 ∷ [])))
     ∷ Prints (pos 500 ∷ (neg_ℤ (pos 1000) ∷ [])) (pos 1 ∷ (neg_ℤ (pos 1) ∷ []))
-    ∷ RefusedBy 1 21
+    ∷ IsRefusedBy 1 21
     ∷ NoneCounts 1
     ∷ CountsAt 1 3
     ∷ []
 
 -- each of them holds
-abbrev pub Held : List (Type 0) → Type 0
-Held [] = Unit {0}
-Held (P ∷ ps) = P × Held ps
+abbrev pub AllTrue : List (Type 0) → Type 0
+AllTrue [] = Unit {0}
+AllTrue (P ∷ ps) = P × AllTrue ps

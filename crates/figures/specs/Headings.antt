@@ -1,6 +1,6 @@
--- What headings of given grams print. Assumes nothing.
+-- What headings of given grams print.
 use Rattle.std.specs.Prelude.{◌≡◌, ◌-◌, List, ◌++◌, length, map, replicate, ℤ, pos}
-use Rattle.totals.specs.Sums.{Sums, grams_in, count_in, numbered}
+use Rattle.totals.specs.Sums.{Sums, grams_in, count_in, numbered_rows}
 use Rattle.pages.specs.Cuts.{by_row}
 use Rattle.pages.specs.Pages.{page_figures}
 
@@ -11,8 +11,8 @@ in_rows rest xs = xs ++ replicate (22 - length xs) rest
 -- one entry in each of the first rows, of so many grams
 abbrev pub one_in_each_row : List ℤ → Sums
 one_in_each_row grams = record {
-  grams = λ choice. grams_in choice (numbered 1 (in_rows (pos 0) grams));
-  counts = λ choice. count_in choice (numbered 1 (in_rows 0 (map (λ g. 1) grams)));
+  grams = λ choice. grams_in choice (numbered_rows 1 (in_rows (pos 0) grams));
+  counts = λ choice. count_in choice (numbered_rows 1 (in_rows 0 (map (λ g. 1) grams)));
 }
 
 -- a page on which each row is a heading prints so many kilograms for so many grams, and nothing for the rows after these

@@ -1,4 +1,4 @@
-// Figures at the ends of the ranges, worked out by hand and compared by booking them.
+//! Figures at the ends of the ranges, worked out by hand and compared by booking them.
 use booking::{book, thousandths};
 use domain::{Building, BuildingNumbers, Entry, EntryHead, FactorNumbers, FactorRow, Quantity};
 use factors::{BuiltIn, FactorSource, ProjectList};
@@ -44,7 +44,7 @@ fn the_largest_measured_quantity(rt: HostRuntime) {
 }
 
 #[test]
-fn the_heaviest_entry(rt: HostRuntime) {
+fn the_largest_entry(rt: HostRuntime) {
     let most = Quantity::Counted(1_000_000_000);
     assert_eq!(rt;
         outcome(1, 11, most, 1_000_000_000),

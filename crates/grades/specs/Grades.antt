@@ -1,4 +1,4 @@
--- Which grade a building is given. Assumes nothing.
+-- Which grade a building is given.
 use Rattle.std.specs.Prelude.{◌≡◌, ℕ, ◌-◌, ◌*◌, ◌<◌, ◌≤◌, Bool, if◌then◌else◌, ◌||◌, ◌==◌, ◌⊎◌, List, Option, Some, None, ℤ, pos, ◌*ℤ◌, ◌≤ℤ◌}
 use Rattle.domain.specs.declared.building.BuildingNumbers.{BuildingNumbers}
 use Rattle.totals.specs.Sums.{Sums}
@@ -13,12 +13,12 @@ grade_number LowCarbon = 1
 grade_number NearZero = 2
 
 -- the energy of use: burnt and bought, for the building's equipment and by its users, and the renewables
-abbrev pub energy : ℕ → Bool
-energy row = row == 11 || (row == 12 || (row == 14 || (row == 15 || row == 19)))
+abbrev pub is_use_energy : ℕ → Bool
+is_use_energy row = row == 11 || (row == 12 || (row == 14 || (row == 15 || row == 19)))
 
 -- what the energy of use weighs in grams; the renewables stand in their row with a minus
-abbrev pub weight : Sums → ℤ
-weight sums = sums.grams energy
+abbrev pub energy_emissions : Sums → ℤ
+energy_emissions sums = sums.grams is_use_energy
 
 -- an intensity in tenths of a kilogram per square metre and year, over a building's area in tenths of a square metre and its years: in grams
 abbrev pub grams_over_life : BuildingNumbers → ℕ → ℕ
@@ -51,7 +51,7 @@ unfoldable pub MeetsGrade : ℕ → BuildingNumbers → ℤ → Type 0
 MeetsGrade n b w = Meets (limit (limits_of n) b) (ratio (ratios_of n) b.region) b w
 
 -- grade n is given: the building meets it, unless it is 0, and meets no higher one
-pub record Awarded (b : BuildingNumbers) (w : ℤ) (n : ℕ) : Type 0 where
+pub record IsAwarded (b : BuildingNumbers) (w : ℤ) (n : ℕ) : Type 0 where
   pub graded : n ≤ 2
   pub met : (n ≡ 0) ⊎ MeetsGrade n b w
   pub highest : (m : ℕ) → n < m → m ≤ 2 → MeetsGrade m b w → ⊥

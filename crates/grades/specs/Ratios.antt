@@ -1,4 +1,4 @@
--- The ratios of the two grades: by how many per cent a building has to lie below its reference. The figures are those of the zero-carbon draft. Assumes nothing.
+-- The ratios of the two grades: by how many per cent a building has to lie below its reference. The figures are those of the zero-carbon draft.
 use Rattle.std.specs.Prelude.{ℕ, ◌-◌, List, [], ◌∷◌, slice_index}
 
 -- from the first region to the last

@@ -1,8 +1,8 @@
-// What a grade demands: a limit, or a ratio to the building's reference.
+//! What a grade demands: a limit, or a ratio to the building's reference.
 ghost use Rattle.std.specs.Prelude.{◌≡◌, ◌≢◌, ◌-◌, ◌*◌, ◌≤◌, ◌↔◌, IsTrue, pos, ◌*ℤ◌, ◌≤ℤ◌};
 ghost use Rattle.domain.specs.Buildings.{numbers_of};
 ghost use Rattle.grades.specs.Grades.{grams_over_life, LimitHolds, RatioHolds, Meets};
-ghost use Rattle.totals.specs.Sizes.{WithinTotals};
+ghost use Rattle.totals.specs.Sizes.{IsWithinTotals};
 
 use domain::{Building, BuildingType};
 
@@ -16,31 +16,31 @@ const NO_REFERENCE: u16 = 0;
 const WHOLE: u16 = 100;
 
 // Whether the limit holds or the ratio does.
-pub(crate) fn meets(limit: Option<u16>, ratio: u16, building: &Building, weight: i64) -> bool
+pub(crate) fn meets(limit: Option<u16>, ratio: u16, building: &Building, energy_emissions: i64) -> bool
     requires share { ratio ≤ 100 }
-    requires within { WithinTotals weight }
-    ensures { IsTrue result ↔ Meets limit ratio (numbers_of building.now) weight }
+    requires within { IsWithinTotals energy_emissions }
+    ensures { IsTrue result ↔ Meets limit ratio (numbers_of building.now) energy_emissions }
 {
-    limit_holds(limit, building, weight) || ratio_holds(ratio, building, weight)
+    limit_holds(limit, building, energy_emissions) || ratio_holds(ratio, building, energy_emissions)
 }
 
 // Where there is no limit, none holds.
-fn limit_holds(limit: Option<u16>, building: &Building, weight: i64) -> bool
-    ensures { IsTrue result ↔ LimitHolds limit (numbers_of building.now) weight }
+fn limit_holds(limit: Option<u16>, building: &Building, energy_emissions: i64) -> bool
+    ensures { IsTrue result ↔ LimitHolds limit (numbers_of building.now) energy_emissions }
 {
     match limit {
-        Some(limit) => weight <= grams_over_life(building, limit) as i64,
+        Some(limit) => energy_emissions <= grams_over_life(building, limit) as i64,
         None => false,
     }
 }
 
 // Homes, and buildings with no reference, have only the limit.
-fn ratio_holds(ratio: u16, building: &Building, weight: i64) -> bool
+fn ratio_holds(ratio: u16, building: &Building, energy_emissions: i64) -> bool
     requires share { ratio ≤ 100 }
-    requires within { WithinTotals weight }
-    ensures { IsTrue result ↔ RatioHolds ratio (numbers_of building.now) weight }
+    requires within { IsWithinTotals energy_emissions }
+    ensures { IsTrue result ↔ RatioHolds ratio (numbers_of building.now) energy_emissions }
 {
-    has_reference(building) && is_below(ratio, building, weight)
+    has_reference(building) && is_below(ratio, building, energy_emissions)
 }
 
 // Whether there is a reference that the building is compared with.
@@ -51,15 +51,15 @@ fn has_reference(building: &Building) -> bool
 }
 
 // Whether the weight lies so many per cent below the reference, or more.
-fn is_below(ratio: u16, building: &Building, weight: i64) -> bool
+fn is_below(ratio: u16, building: &Building, energy_emissions: i64) -> bool
     requires share { ratio ≤ 100 }
-    requires within { WithinTotals weight }
+    requires within { IsWithinTotals energy_emissions }
     ensures { IsTrue result ↔
-        ((pos 100 *ℤ weight) ≤ℤ
+        ((pos 100 *ℤ energy_emissions) ≤ℤ
         pos ((100 - ratio) * grams_over_life (numbers_of building.now) building.now.reference)) }
 {
     let left = u64::from(WHOLE - ratio) * grams_over_life(building, building.reference);
-    i64::from(WHOLE) * weight <= left as i64
+    i64::from(WHOLE) * energy_emissions <= left as i64
 }
 
 // An intensity over the building's area and its years, in grams.

@@ -1,8 +1,8 @@
-// The grades.
+//! The grades.
 ghost use Rattle.std.specs.Prelude.{◌≡◌};
 ghost use Rattle.grades.specs.Grades.{grade_number};
 
-// What a building is called for its use of energy, the higher the better.
+/// What a building is called for its use of energy, the higher the better.
 #[derive(Clone, Copy, Debug, PartialEq, Eq)]
 pub enum Grade {
     Ungraded = 0,

@@ -1,4 +1,4 @@
-// How low in carbon a building is, by the energy that its use takes.
+//! How low in carbon a building is, by the energy that its use takes.
 #![tactic(auto)]
 
 mod award;
@@ -6,7 +6,7 @@ mod demands;
 mod grading;
 mod limits;
 mod ratios;
-mod weight;
+mod energy_emissions;
 
 pub use award::grade;
 pub use grading::Grade;

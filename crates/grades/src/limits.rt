@@ -1,7 +1,7 @@
-// The limits of the two grades, and which of them a building has.
+//! The limits of the two grades, and which of them a building has.
 ghost use Rattle.std.specs.Prelude.{◌≡◌, map};
 ghost use Rattle.domain.specs.Buildings.{numbers_of};
-ghost use Rattle.grades.specs.Limits.{is_for, limit, low_carbon_limits, near_zero_limits, row_numbers};
+ghost use Rattle.grades.specs.Limits.{is_for, limit, low_carbon_limits, near_zero_limits, limits_of_row};
 
 use domain::{Building, Region};
 
@@ -128,7 +128,7 @@ pub(crate) fn near_zero_limit(building: &Building) -> Option<u16>
 // The limit in the first row that is for the building.
 #[tactic(auto, unfolding(crate::specs::Limits::limit))]
 fn limit(table: &[LimitRow], building: &Building) -> Option<u16>
-    ensures { result ≡ limit (map row_numbers table.now) (numbers_of building.now) }
+    ensures { result ≡ limit (map limits_of_row table.now) (numbers_of building.now) }
 {
     let column = usize::from(u16::from(building.building_type)) - 1;
     for row in table {
@@ -141,7 +141,7 @@ fn limit(table: &[LimitRow], building: &Building) -> Option<u16>
 
 impl LimitRow {
     fn is_for(&self, building: &Building) -> bool
-        ensures { result ≡ is_for (row_numbers self.now) (numbers_of building.now) }
+        ensures { result ≡ is_for (limits_of_row self.now) (numbers_of building.now) }
     {
         self.region == building.region && self.sun.is_none_or(|sun| sun == building.sun)
     }

@@ -1,9 +1,9 @@
--- What is written for the bytes that are read of a feed is that for the feed, and nothing else is. Assumes nothing.
+-- What is written for the bytes that are read of a feed is that for the feed, and nothing else is.
 use Rattle.std.proofs.Common.{◌≡◌, ℕ, ◌<◌, ◌≤◌, List, length, take, sym, ◌∙◌, subst, ⊎_elim, arith}
 use Rattle.std.proofs.str.Laws.{order}
 use Rattle.feed.proofs.Enough.{all_or_long}
 use Rattle.listing.proofs.Only.{listing_only}
-use Rattle.listing.specs.Answers.{ListsOrRefuses, IsListing}
+use Rattle.listing.specs.WrittenListings.{ListsOrRefuses, IsListing}
 
 -- what is longer than a feed may be is refused for that alone
 long_only : (feed other text : List ℕ) → 65536 < length feed → 65536 < length other → ListsOrRefuses feed text → ListsOrRefuses other text

@@ -1,4 +1,4 @@
-mod Rows
+mod FitRows
 mod Texts
 mod Turns
 mod Begun

@@ -1,4 +1,4 @@
--- What the entries of a feed are booked by: its building, and its own factors. Assumes nothing.
+-- What the entries of a feed are booked by: its building, and its own factors.
 use Rattle.std.specs.Prelude.{ℕ, List, [], ◌∷◌, Some, None, Ok, Err, vec_items, Option}
 use Rattle.refusals.specs.declared.refusal.Refusal.{Refusal}
 use Rattle.domain.specs.declared.building.Building.{Building}
@@ -6,24 +6,24 @@ use Rattle.domain.specs.declared.factor.FactorRow.{FactorRow}
 use Rattle.feed.specs.Openings.{OpensWith}
 use Rattle.feed.specs.Readings.{ReadsBuilding, ReadsFactorRow}
 use Rattle.factors.specs.Layers.{project_map}
-use Rattle.factors.specs.Maps.{Map}
+use Rattle.factors.specs.Maps.{FactorMap}
 use Rattle.listing.specs.declared.basis.BookingBasis.{BookingBasis}
 
 -- the factor rows that are read from notes; one that is refused is passed over
-pub data FitRows : List (List ℕ) → List FactorRow → Type 0 where
-  none : FitRows [] []
-  row : {note : List ℕ} {notes : List (List ℕ)} {r : FactorRow} {rows : List FactorRow} → ReadsFactorRow note (Ok r) → FitRows notes rows → FitRows (note ∷ notes) (r ∷ rows)
-  passed : {note : List ℕ} {notes : List (List ℕ)} {rows : List FactorRow} (f : Refusal) → ReadsFactorRow note (Err f) → FitRows notes rows → FitRows (note ∷ notes) rows
+pub data KeepsFitRows : List (List ℕ) → List FactorRow → Type 0 where
+  none : KeepsFitRows [] []
+  row : {note : List ℕ} {notes : List (List ℕ)} {r : FactorRow} {rows : List FactorRow} → ReadsFactorRow note (Ok r) → KeepsFitRows notes rows → KeepsFitRows (note ∷ notes) (r ∷ rows)
+  passed : {note : List ℕ} {notes : List (List ℕ)} {rows : List FactorRow} (f : Refusal) → ReadsFactorRow note (Err f) → KeepsFitRows notes rows → KeepsFitRows (note ∷ notes) rows
 
 -- a feed begins with a building, which is its first note, and the factor rows after it; or it has neither
-pub data Begins (feed : List ℕ) : Option Building → List FactorRow → Type 0 where
-  building : {rows : List FactorRow} {notes : List (List ℕ)} {left : List ℕ} (b : Building) → OpensWith feed b notes left → FitRows notes rows → Begins feed (Some b) rows
-  no_building : ((b : Building) → ReadsBuilding feed (Ok b) → ⊥) → Begins feed None []
+pub data BeginsWith (feed : List ℕ) : Option Building → List FactorRow → Type 0 where
+  building : {rows : List FactorRow} {notes : List (List ℕ)} {left : List ℕ} (b : Building) → OpensWith feed b notes left → KeepsFitRows notes rows → BeginsWith feed (Some b) rows
+  no_building : ((b : Building) → ReadsBuilding feed (Ok b) → ⊥) → BeginsWith feed None []
 
 -- the basis on which entries are booked: the building's life in years and the factors, if there is a building
 pub data Basis : Type 0 where
   unbooked : Basis
-  by : (y : ℕ) (known : Map) → Basis
+  by : (y : ℕ) (factor_map : FactorMap) → Basis
 
 abbrev pub basis_with : Option Building → List FactorRow → Basis
 basis_with None rows = unbooked

@@ -1,5 +1,5 @@
 pub mod Bases
-pub mod Lines
-pub mod Statements
+pub mod ListingLines
+pub mod StatementTexts
 pub mod Listings
-pub mod Answers
+pub mod WrittenListings

@@ -1,14 +1,14 @@
-// What the entries of a feed are booked by: the building and the factors that it opens with.
+//! What the entries of a feed are booked by: the building and the factors that it opens with.
 ghost use Rattle.std.specs.Prelude.{IfOk, List, ℕ};
-ghost use Rattle.feed.specs.Rows.{RowsRead};
-ghost use Rattle.listing.specs.Bases.{Begins, FitRows};
+ghost use Rattle.feed.specs.FactorRows.{ReadsEachRow};
+ghost use Rattle.listing.specs.Bases.{BeginsWith, KeepsFitRows};
 
 use domain::{Building, FactorRow};
-use feed::opening::{Opening, OpeningError};
+use feed::{Opening, OpeningError};
 use refusals::Refusal;
 use std::alloc::{AllocError, Global};
 
-// The building, if the feed has one first, and the factor rows after it; without a building there are none.
+/// The building, if the feed has one first, and the factor rows after it; without a building there are none.
 #[derive(Debug, Drop)]
 pub struct BookingBasis {
     pub building: Option<Building>,
@@ -17,7 +17,7 @@ pub struct BookingBasis {
 
 impl BookingBasis {
     pub fn read(heap: Global, feed: &[u8]) -> Result<BookingBasis, AllocError>
-        ensures { IfOk result (λ basis. Begins feed.now basis.building basis.rows.items) }
+        ensures { IfOk result (λ basis. BeginsWith feed.now basis.building basis.rows.items) }
     {
         match Opening::read(heap, feed) {
             Ok(opening) => Ok(BookingBasis {
@@ -38,7 +38,7 @@ fn fit_rows(
     heap: Global,
     answers: &[Result<FactorRow, Refusal>],
 ) -> Result<Vec<FactorRow>, AllocError>
-    ensures { IfOk result (λ rows. (notes : List (List ℕ)) → RowsRead notes answers.now → FitRows notes rows.items) }
+    ensures { IfOk result (λ rows. (notes : List (List ℕ)) → ReadsEachRow notes answers.now → KeepsFitRows notes rows.items) }
 {
     let mut rows = Vec::new(heap);
     for answer in answers {

@@ -1,13 +1,14 @@
-// A feed in words: a line for each note with what it is booked at, and how the feed ends.
+//! A feed in words: a line for each note with what it is booked at, and how the feed ends.
 #![tactic(auto)]
 
-pub mod basis;
-mod lines;
+mod basis;
+mod listing_line;
 mod outcome;
 mod statement;
-mod whole;
+mod feed_listing;
 mod writing;
 
-pub use lines::line;
-pub use whole::listing;
+pub use basis::BookingBasis;
+pub use listing_line::part_line;
+pub use feed_listing::listing;
 pub use writing::write_listing;

@@ -1,20 +1,19 @@
-// What an entry is booked at.
+//! What an entry is booked at.
 ghost use Rattle.std.specs.Prelude.{Some};
-ghost use Rattle.listing.specs.Lines.{IsBooked, IsOutcome, entry_of, outcome_said};
+ghost use Rattle.listing.specs.ListingLines.{IsNoteOutcome, IsOutcome, entry_of, outcome_text};
 ghost use Rattle.listing.specs.Bases.{basis_of};
 
 use crate::basis::BookingBasis;
-use booking::{Line, book};
+use booking::{BookedLine, book};
 use domain::Entry;
 use factors::ProjectFactors;
-use feed::note::Note;
-use feed::sent::{Sent, SentContent};
+use feed::{Note, SentContent, SentNote};
 use refusals::Refusal;
 use std::fmt;
 
 #[derive(Clone, Copy, Debug, PartialEq, Eq)]
 pub(crate) enum Outcome {
-    Booked(Line),
+    Booked(BookedLine),
     Refused(Refusal),
     // there is no building to book for
     Unbooked,
@@ -23,11 +22,11 @@ pub(crate) enum Outcome {
 impl BookingBasis {
     // What a note is booked at, if it is an entry.
     pub(crate) fn outcome(&self, note: &Note) -> Option<Outcome>
-        ensures { IsBooked (basis_of self.now) (entry_of note.now) result }
+        ensures { IsNoteOutcome (basis_of self.now) (entry_of note.now) result }
     {
         match note {
             Note::Sent(
-                Sent {
+                SentNote {
                     content: SentContent::Entry(entry),
                     ..
                 },
@@ -53,7 +52,7 @@ impl BookingBasis {
 }
 
 impl fmt::Display for Outcome {
-    ghost output = { λ o. Some (outcome_said o) };
+    ghost output = { λ o. Some (outcome_text o) };
 
     fn fmt<W: fmt::Write>(&self, f: &mut fmt::Formatter<W>) -> fmt::Result {
         match self {

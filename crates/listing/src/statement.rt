@@ -1,14 +1,12 @@
-// What a line states of the first note of bytes.
+//! What a line states of the first note of bytes.
 ghost use Rattle.std.specs.Prelude.{Some};
-ghost use Rattle.listing.specs.Lines.{Tells};
+ghost use Rattle.listing.specs.ListingLines.{IsStatement};
 ghost use Rattle.listing.specs.Bases.{basis_of};
-ghost use Rattle.listing.specs.Statements.{stated};
+ghost use Rattle.listing.specs.StatementTexts.{statement_text};
 
 use crate::basis::BookingBasis;
 use crate::outcome::Outcome;
-use feed::frame::Head;
-use feed::kind::Kind;
-use feed::note::Note;
+use feed::{Head, Kind, Note};
 use refusals::Refusal;
 use std::fmt;
 
@@ -24,7 +22,7 @@ pub(crate) enum Statement {
 
 impl Statement {
     pub(crate) fn of(basis: &BookingBasis, bytes: &[u8]) -> Statement
-        ensures { Tells (basis_of basis.now) bytes.now (stated result) }
+        ensures { IsStatement (basis_of basis.now) bytes.now (statement_text result) }
     {
         match Note::read(bytes) {
             Ok(note) => Statement::Note(note, basis.outcome(&note)),
@@ -37,7 +35,7 @@ impl Statement {
 }
 
 impl fmt::Display for Statement {
-    ghost output = { λ s. Some (stated s) };
+    ghost output = { λ s. Some (statement_text s) };
 
     fn fmt<W: fmt::Write>(&self, f: &mut fmt::Formatter<W>) -> fmt::Result {
         match self {

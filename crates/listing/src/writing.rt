@@ -1,21 +1,21 @@
-// The listing of what a reader has, written to a writer.
+//! The listing of what a reader has, written to a writer.
 ghost use Rattle.std.specs.Prelude.{IfOk, IfSome, OnOk, string_bytes};
-ghost use Rattle.feed.specs.Writing.{Written};
-ghost use Rattle.listing.specs.Answers.{ListsOrRefuses, IsListing};
+ghost use Rattle.feed.specs.Writing.{WritesText};
+ghost use Rattle.listing.specs.WrittenListings.{ListsOrRefuses, IsListing};
 
-use crate::whole::listing;
-use feed::input::{MOST_BYTES, read_feed};
+use crate::feed_listing::listing;
+use feed::{MAX_BYTES, read_feed};
 use refusals::Refusal;
 use std::alloc::{AllocError, Global};
 use std::io::{self, Read, Write};
 
-// Reads a feed, and writes its listing as a whole, or that it is too long: where the text cannot be made, nothing is written.
+/// Reads a feed, and writes its listing as a whole, or that it is too long: where the text cannot be made, nothing is written.
 pub fn write_listing<R: Read + Drop, W: Write>(
     heap: Global,
     reader: R,
     writer: &mut W,
 ) -> io::Result<()>
-    ensures { OnOk result (IfSome (R.remaining reader) (λ feed. Written (IsListing feed) (W.contents writer.old) (W.contents writer.new))) }
+    ensures { OnOk result (IfSome (R.remaining reader) (λ feed. WritesText (IsListing feed) (W.contents writer.old) (W.contents writer.new))) }
 {
     let feed = read_feed(heap, reader)?;
     let text = listing_or_refusal(heap, feed.as_slice())?;
@@ -26,7 +26,7 @@ pub fn write_listing<R: Read + Drop, W: Write>(
 fn listing_or_refusal(heap: Global, feed: &[u8]) -> Result<String, AllocError>
     ensures { IfOk result (λ text. ListsOrRefuses feed.now (string_bytes text)) }
 {
-    if feed.len() > MOST_BYTES {
+    if feed.len() > MAX_BYTES {
         let refusal = Refusal::FeedTooLong;
         return format!(in heap; "{refusal}\n");
     }

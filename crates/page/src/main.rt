@@ -1,4 +1,4 @@
-// Prints the report of the feed on standard input.
+//! Prints the report of the feed on standard input.
 #![tactic(auto)]
 
 use report::write_report;

@@ -1,27 +1,27 @@
--- A page drawn as far as a loop over its headings has come. Assumes nothing.
+-- A page drawn as far as a loop over its headings has come.
 use Rattle.std.proofs.Common.{◌≡◌, ℕ, ◌+◌, ◌-◌, ◌<◌, ◌≤◌, List, ◌++◌, length, get_or, set, drop, map, ℤ, pos, ◌+ℤ◌, ◌-ℤ◌, nat_eq, unsigned_abs, ◌^◌, Ok, Fits, FitsSigned, w16, w64, append_assoc, subst, refl, sym, ap, ◌∙◌, arith}
 use Rattle.std.specs.List.{range_with_len}
 use Rattle.std.proofs.lemmas.Int.{ints, to_z-of_z, fits_signed_from_abs}
 use Rattle.std.proofs.lemmas.List.{drop_more, set_at}
 use Rattle.std.proofs.lemmas.List.FromFn.{map-range_with_len_more, length-map-range_with_len}
-use Rattle.totals.specs.Sizes.{most_size}
+use Rattle.totals.specs.Sizes.{max_size}
 use Rattle.totals.specs.Sums.{sums_of}
 use Rattle.totals.specs.declared.totals.Totals.{Totals}
 use Rattle.totals.proofs.Adding.{whole, natural, held}
 use Rattle.totals.proofs.Choosing.{one_alone, grams_within, counts_within}
 use Rattle.pages.specs.declared.figure.Figure.{Figure}
 use Rattle.pages.specs.Cuts.{Assignment, IsCut}
-use Rattle.pages.specs.Pages.{kilograms, under, running, run, heading_figure, page_figures, total_figure, printed, between, Writes, AddUp, NearGrams}
+use Rattle.pages.specs.Pages.{whole_kilograms, heading_sums, running_sum, is_between, heading_figure, page_figures, total_figure, printed_kilograms, figures_between, Writes, AddUp, IsNearGrams}
 use Rattle.pages.proofs.Parts.{additive_sums, Cutting, up_to, sum_more, sum_none, sum_all}
 use Rattle.pages.proofs.Telescope.{nothing_stays, adds_up}
-use Rattle.pages.proofs.Nearby.{is_rounded, near_run}
+use Rattle.pages.proofs.Nearby.{is_rounded, near_between}
 
 -- a number that fits is what its bits are read as
 read_back : (z : ℤ) → unsigned_abs z < 2 ^ 63 → held z ≡ z
 read_back z h = to_z-of_z w64 z (fits_signed_from_abs w64 z h)
 
 -- kilograms of such grams are far from wrapping
-small_kilograms : (g : ℤ) → unsigned_abs g ≤ most_size → unsigned_abs (kilograms g) ≤ 51200000000001
+small_kilograms : (g : ℤ) → unsigned_abs g ≤ max_size → unsigned_abs (whole_kilograms g) ≤ 51200000000001
 small_kilograms g h = let r = is_rounded g in omega (arith, ints, r.least, r.most)
 
 -- one more figure behind those that are written
@@ -41,22 +41,22 @@ pub page : {cut : Assignment} {n : ℕ} (t : Totals) → IsCut cut → cut.size 
 page t lawful sized g c = record { cutting = record { lawful = lawful; adds = additive_sums t g c }; sized = sized }
 
 -- any run of its headings is near what it comes to
-pub near_page : {cut : Assignment} {t : Totals} {n : ℕ} → Page cut t n → (i j : ℕ) → i ≤ j → j ≤ n → NearGrams (printed (between i j (page_figures cut (sums_of t)))) ((under cut (sums_of t)).grams (run i j))
-near_page p i j l m = near_run p.cutting i j l (omega (arith, p.sized))
+pub near_page : {cut : Assignment} {t : Totals} {n : ℕ} → Page cut t n → (i j : ℕ) → i ≤ j → j ≤ n → IsNearGrams (printed_kilograms (figures_between i j (page_figures cut (sums_of t)))) ((heading_sums cut (sums_of t)).grams (is_between i j))
+near_page p i j l m = near_between p.cutting i j l (omega (arith, p.sized))
 
 -- totals by row, and the same under the headings
 pub record Headed (cut : Assignment) (t u : Totals) (n : ℕ) : Type 0 where
   pub page : Page cut t n
   pub grams_under : length u.grams ≡ 22
   pub counts_under : length u.counts ≡ 22
-  pub same : sums_of u ≡ under cut (sums_of t)
+  pub same : sums_of u ≡ heading_sums cut (sums_of t)
 
 -- the first k headings are written
 pub record Drawn (cut : Assignment) (t u : Totals) (n : ℕ) (before figures : List Figure) (grams : ℤ) (total : Figure) (k : ℕ) : Type 0 where
   pub headed : Headed cut t u n
   pub room : n ≤ length before
-  pub run : grams ≡ running cut (sums_of t) k
-  pub kilograms : total.kilograms ≡ kilograms (running cut (sums_of t) k)
+  pub run : grams ≡ running_sum cut (sums_of t) k
+  pub kilograms : total.kilograms ≡ whole_kilograms (running_sum cut (sums_of t) k)
   pub count : total.count ≡ (sums_of t).counts (up_to cut k)
   pub figures_are : figures ≡ map (heading_figure cut (sums_of t)) (range_with_len 1 k) ++ drop k before
 
@@ -65,18 +65,18 @@ pub none_drawn : {cut : Assignment} {t u : Totals} {n : ℕ} {before : List Figu
 none_drawn headed room =
     let p = headed.page.cutting in
     let r = sum_none whole p.adds.grams p.lawful in
-    record { headed = headed; room = room; run = sym r; kilograms = sym nothing_stays ∙ ap kilograms (sym r); count = sym (sum_none natural p.adds.counts p.lawful); figures_are = refl }
+    record { headed = headed; room = room; run = sym r; kilograms = sym nothing_stays ∙ ap whole_kilograms (sym r); count = sym (sum_none natural p.adds.counts p.lawful); figures_are = refl }
 
 module _ {cut : Assignment} {t u : Totals} {n : ℕ} {before figures : List Figure} {z : ℤ} {total : Figure} {k : ℕ} (drawn : Drawn cut t u n before figures z total k) where
   -- neither grams nor kilograms up to a heading wrap
-  light : (j : ℕ) → unsigned_abs (running cut (sums_of t) j) ≤ most_size
-  light j = grams_within t (up_to cut j)
+  in_bounds : (j : ℕ) → unsigned_abs (running_sum cut (sums_of t) j) ≤ max_size
+  in_bounds j = grams_within t (up_to cut j)
 
-  small : (j : ℕ) → unsigned_abs (kilograms (running cut (sums_of t) j)) ≤ 51200000000001
-  small j = small_kilograms (running cut (sums_of t) j) (light j)
+  small : (j : ℕ) → unsigned_abs (whole_kilograms (running_sum cut (sums_of t) j)) ≤ 51200000000001
+  small j = small_kilograms (running_sum cut (sums_of t) j) (in_bounds j)
 
   -- the total so far as the machine reads it
-  before_is : held total.kilograms ≡ kilograms (running cut (sums_of t) k)
+  before_is : held total.kilograms ≡ whole_kilograms (running_sum cut (sums_of t) k)
   before_is = let s = small k in rw drawn.kilograms (read_back _ (omega arith))
 
   module _ (within : k < n) where
@@ -85,27 +85,27 @@ module _ {cut : Assignment} {t u : Totals} {n : ℕ} {before figures : List Figu
     in_place = omega (arith, drawn.headed.page.cutting.lawful.few, drawn.headed.page.sized)
 
     -- the count under the next heading
-    counts_at : get_or u.counts k 0 ≡ (under cut (sums_of t)).counts (λ h. nat_eq h (k + 1))
+    counts_at : get_or u.counts k 0 ≡ (heading_sums cut (sums_of t)).counts (λ h. nat_eq h (k + 1))
     counts_at =
         let l = in_place in
         sym (one_alone natural (k + 1) 1 u.counts k 0 (omega arith) (omega (arith, drawn.headed.counts_under)))
         ∙ ap (λ s. s.counts (λ h. nat_eq h (k + 1))) drawn.headed.same
 
     -- the running sum with the next heading's grams
-    sum_is : z +ℤ held (get_or u.grams k (pos 0)) ≡ running cut (sums_of t) (k + 1)
+    sum_is : z +ℤ held (get_or u.grams k (pos 0)) ≡ running_sum cut (sums_of t) (k + 1)
     sum_is =
         let l = in_place in
         let p = drawn.headed.page.cutting in
-        let at : get_or u.grams k (pos 0) ≡ (under cut (sums_of t)).grams (λ h. nat_eq h (k + 1)) =
+        let at : get_or u.grams k (pos 0) ≡ (heading_sums cut (sums_of t)).grams (λ h. nat_eq h (k + 1)) =
         sym (one_alone whole (k + 1) 1 u.grams k (pos 0) (omega arith) (omega (arith, drawn.headed.grams_under))) ∙ ap (λ s. s.grams (λ h. nat_eq h (k + 1))) drawn.headed.same in
         let small = grams_within t (λ row. nat_eq (cut.heading row) (k + 1)) in
-        let kept = read_back ((under cut (sums_of t)).grams (λ h. nat_eq h (k + 1))) (omega arith) in
+        let kept = read_back ((heading_sums cut (sums_of t)).grams (λ h. nat_eq h (k + 1))) (omega arith) in
         rw at (omega (arith, ints, kept, drawn.run, sum_more whole p.adds.grams p.lawful k))
 
     pub sum_fits : FitsSigned w64 (z +ℤ held (get_or u.grams k (pos 0)))
-    sum_fits = let l = light (k + 1) in rw sum_is (fits_signed_from_abs w64 _ (omega arith))
+    sum_fits = let l = in_bounds (k + 1) in rw sum_is (fits_signed_from_abs w64 _ (omega arith))
 
-    run_is : held (z +ℤ held (get_or u.grams k (pos 0))) ≡ running cut (sums_of t) (k + 1)
+    run_is : held (z +ℤ held (get_or u.grams k (pos 0))) ≡ running_sum cut (sums_of t) (k + 1)
     run_is = to_z-of_z w64 _ sum_fits ∙ sum_is
 
     -- and how many entries it is of
@@ -115,9 +115,9 @@ module _ {cut : Assignment} {t u : Totals} {n : ℕ} {before figures : List Figu
     pub count_fits : Fits w16 (total.count + get_or u.counts k 0)
     count_fits = let few = counts_within t (up_to cut (k + 1)) in rw count_is (omega arith)
 
-    module _ {kg : ℤ} (rounds : kg ≡ kilograms (held (z +ℤ held (get_or u.grams k (pos 0))))) where
+    module _ {kg : ℤ} (rounds : kg ≡ whole_kilograms (held (z +ℤ held (get_or u.grams k (pos 0))))) where
       -- its kilograms, which the machine reads as they are
-      kg_is : held kg ≡ kilograms (running cut (sums_of t) (k + 1))
+      kg_is : held kg ≡ whole_kilograms (running_sum cut (sums_of t) (k + 1))
       kg_is = let s = small (k + 1) in rw (rounds, run_is) (read_back _ (omega arith))
 
       pub rest_fits : FitsSigned w64 (held kg -ℤ held total.kilograms)
@@ -152,7 +152,7 @@ module _ {cut : Assignment} {t u : Totals} {n : ℕ} {before figures : List Figu
     total_is : total ≡ total_figure (sums_of t)
     total_is =
         let c = drawn.headed.page.cutting in
-        let p = drawn.kilograms ∙ ap (λ j. kilograms (running cut (sums_of t) j)) size_is ∙ ap kilograms (sum_all whole c.adds.grams c.lawful) in
+        let p = drawn.kilograms ∙ ap (λ j. whole_kilograms (running_sum cut (sums_of t) j)) size_is ∙ ap whole_kilograms (sum_all whole c.adds.grams c.lawful) in
         let q = drawn.count ∙ ap (λ j. (sums_of t).counts (up_to cut j)) size_is ∙ sum_all natural c.adds.counts c.lawful in
         λ i. record { kilograms = p i; count = q i }
 

@@ -1,4 +1,4 @@
--- What stands under any run of headings is near what they come to. Assumes nothing.
+-- What stands under any run of headings is near what they come to.
 use Rattle.std.proofs.Common.{◌≡◌, ℕ, ◌≤◌, ℤ, pos, ◌+ℤ◌, ◌-ℤ◌, ◌*ℤ◌, ◌<ℤ◌, ◌≤ℤ◌, arith}
 use Rattle.std.proofs.lemmas.Int.{ints}
 use Rattle.exact.proofs.Nearness.{is_nearest, below}
@@ -6,8 +6,8 @@ use Rattle.exact.specs.Rounding.{over}
 use Rattle.totals.specs.Sums.{Sums}
 use Rattle.totals.proofs.Adding.{whole}
 use Rattle.pages.specs.Cuts.{Assignment}
-use Rattle.pages.specs.Pages.{kilograms, under, running, page_figures, printed, between, run, NearGrams}
-use Rattle.pages.proofs.Parts.{Cutting, sum_run}
+use Rattle.pages.specs.Pages.{whole_kilograms, heading_sums, running_sum, page_figures, printed_kilograms, figures_between, is_between, IsNearGrams}
+use Rattle.pages.proofs.Parts.{Cutting, sum_between}
 use Rattle.pages.proofs.Telescope.{printed_between}
 
 -- rounded grams: at most half a kilogram above, and less than half a kilogram below
@@ -16,17 +16,17 @@ pub record Rounded (kg g : ℤ) : Type 0 where
   pub most : (pos 1000 *ℤ kg) ≤ℤ (g +ℤ pos 500)
 
 -- the kilograms that are printed are so
-pub is_rounded : (g : ℤ) → Rounded (kilograms g) g
+pub is_rounded : (g : ℤ) → Rounded (whole_kilograms g) g
 is_rounded g =
     let n = is_nearest (over g 1000) (omega arith) in
     let b = below n in
     record { least = omega (arith, ints); most = omega (arith, ints, n.near.least) }
 
 -- what two rounded sums differ by is near what the sums differ by
-near : {p q g h d : ℤ} → Rounded p g → Rounded q h → g ≡ h +ℤ d → NearGrams (p -ℤ q) d
+near : {p q g h d : ℤ} → Rounded p g → Rounded q h → g ≡ h +ℤ d → IsNearGrams (p -ℤ q) d
 near a b e = record { least = omega (arith, ints, a.least, a.most, b.least, b.most); most = omega (arith, ints, a.least, a.most, b.least, b.most) }
 
 -- so any run of headings
-pub near_run : {cut : Assignment} {sums : Sums} → Cutting cut sums → (i j : ℕ) → i ≤ j → j ≤ cut.size → NearGrams (printed (between i j (page_figures cut sums))) ((under cut sums).grams (run i j))
-near_run {cut} {sums} c i j l m =
-    rw (printed_between cut sums i j l m) (near (is_rounded (running cut sums j)) (is_rounded (running cut sums i)) (sum_run whole c.adds.grams c.lawful i j l))
+pub near_between : {cut : Assignment} {sums : Sums} → Cutting cut sums → (i j : ℕ) → i ≤ j → j ≤ cut.size → IsNearGrams (printed_kilograms (figures_between i j (page_figures cut sums))) ((heading_sums cut sums).grams (is_between i j))
+near_between {cut} {sums} c i j l m =
+    rw (printed_between cut sums i j l m) (near (is_rounded (running_sum cut sums j)) (is_rounded (running_sum cut sums i)) (sum_between whole c.adds.grams c.lawful i j l))

@@ -1,4 +1,4 @@
--- What the first places hold of a page that was written. Assumes nothing.
+-- What the first places hold of a page that was written.
 use Rattle.std.proofs.Common.{◌≡◌, List, ◌++◌, length, take, drop, Ok, ap, ◌∙◌, subst}
 use Rattle.std.proofs.Math.Seq.{take-append_seam}
 use Rattle.std.proofs.lemmas.List.FromFn.{length-map-range_with_len}

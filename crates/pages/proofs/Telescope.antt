@@ -1,4 +1,4 @@
--- The figures of a page add up to its total, however they are rounded as long as nothing stays nothing. Assumes nothing.
+-- The figures of a page add up to its total, however they are rounded as long as nothing stays nothing.
 use Rattle.std.proofs.Common.{◌≡◌, ℕ, zero, suc, ◌+◌, ◌-◌, ◌≤◌, drop, map, sum_by, subst, pos, ◌-ℤ◌, nat_eq, refl, sym, ap, ◌∙◌, arith}
 use Rattle.std.specs.List.{range_with_len}
 use Rattle.std.proofs.lemmas.Int.{ints}
@@ -8,7 +8,7 @@ use Rattle.exact.proofs.Nearness.{stays}
 use Rattle.totals.specs.Sums.{Sums}
 use Rattle.totals.proofs.Adding.{whole, natural}
 use Rattle.pages.specs.Cuts.{Assignment}
-use Rattle.pages.specs.Pages.{kilograms, under, running, heading_figure, page_figures, total_figure, printed, between, AddUp}
+use Rattle.pages.specs.Pages.{whole_kilograms, heading_sums, running_sum, heading_figure, page_figures, total_figure, printed_kilograms, figures_between, AddUp}
 use Rattle.pages.proofs.Parts.{Cutting, up_to, sum_more, sum_none, sum_all}
 
 -- a range without its first numbers
@@ -24,12 +24,12 @@ range_after a (suc n) (suc i) =
     rw (e, f) (range_after (a + 1) n i)
 
 -- no grams are no kilograms
-pub nothing_stays : kilograms (pos 0) ≡ pos 0
+pub nothing_stays : whole_kilograms (pos 0) ≡ pos 0
 nothing_stays = stays (pos 0) 1000 (omega arith)
 
 module _ (cut : Assignment) (sums : Sums) where
   -- whatever stands between two places cancels
-  telescope : (i n : ℕ) → printed (map (heading_figure cut sums) (range_with_len (i + 1) n)) ≡ kilograms (running cut sums (i + n)) -ℤ kilograms (running cut sums i)
+  telescope : (i n : ℕ) → printed_kilograms (map (heading_figure cut sums) (range_with_len (i + 1) n)) ≡ whole_kilograms (running_sum cut sums (i + n)) -ℤ whole_kilograms (running_sum cut sums i)
   telescope i zero =
       let e : i + 0 ≡ i = omega arith in
       rw e (omega (arith, ints))
@@ -39,7 +39,7 @@ module _ (cut : Assignment) (sums : Sums) where
       rw (e, f) (omega (arith, ints, telescope (i + 1) n))
 
   -- what is printed under the headings after i and up to j
-  pub printed_between : (i j : ℕ) → i ≤ j → j ≤ cut.size → printed (between i j (page_figures cut sums)) ≡ kilograms (running cut sums j) -ℤ kilograms (running cut sums i)
+  pub printed_between : (i j : ℕ) → i ≤ j → j ≤ cut.size → printed_kilograms (figures_between i j (page_figures cut sums)) ≡ whole_kilograms (running_sum cut sums j) -ℤ whole_kilograms (running_sum cut sums i)
   unfolding page_figures
   printed_between i j l m =
       let f = heading_figure cut sums in
@@ -54,7 +54,7 @@ module _ {cut : Assignment} {sums : Sums} (c : Cutting cut sums) where
   counted (suc n) =
       let e : n + 1 ≡ suc n = omega arith in
       subst (λ m. sum_by (λ f. f.count) (map (heading_figure cut sums) (range_with_len 1 m)) ≡ sums.counts (up_to cut m)) e
-      (sum_by-map-range_with_len_more (λ f. f.count) (heading_figure cut sums) 1 n (n + 1) (omega arith) ∙ ap (λ z. z + (under cut sums).counts (λ h. nat_eq h (n + 1))) (counted n) ∙ sym (sum_more natural c.adds.counts c.lawful n))
+      (sum_by-map-range_with_len_more (λ f. f.count) (heading_figure cut sums) 1 n (n + 1) (omega arith) ∙ ap (λ z. z + (heading_sums cut sums).counts (λ h. nat_eq h (n + 1))) (counted n) ∙ sym (sum_more natural c.adds.counts c.lawful n))
 
   -- so do the figures, to the total
   pub adds_up : AddUp (page_figures cut sums) (total_figure sums)

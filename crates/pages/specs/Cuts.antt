@@ -1,7 +1,7 @@
--- Cuts: which heading each row has. Assumes nothing.
+-- Cuts: which heading each row has.
 use Rattle.std.specs.Prelude.{ℕ}
-use Rattle.domain.specs.Ranges.{Within}
-use Rattle.booking.specs.Rows.{RowRange, stage}
+use Rattle.domain.specs.Ranges.{IsBetween}
+use Rattle.booking.specs.Rows.{IsRowNumber, stage}
 use Rattle.pages.specs.Types.{emission_type}
 
 -- how many headings there are, and which of them each row has, both counted from 1
@@ -11,8 +11,8 @@ pub record Assignment : Type 0 where
 
 -- a cut has 1 to 22 headings, and gives every row one of them
 pub record IsCut (a : Assignment) : Type 0 where
-  pub few : Within 1 a.size 22
-  pub every : (row : ℕ) → RowRange row → Within 1 (a.heading row) a.size
+  pub few : IsBetween 1 a.size 22
+  pub every : (row : ℕ) → IsRowNumber row → IsBetween 1 (a.heading row) a.size
 
 -- each row has a heading of its own
 abbrev pub by_row : Assignment

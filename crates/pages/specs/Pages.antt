@@ -1,31 +1,31 @@
--- A page: what it prints under the headings of a cut. Assumes nothing.
+-- A page: what it prints under the headings of a cut.
 use Rattle.std.specs.Prelude.{◌≡◌, ℕ, ◌-◌, ◌≤◌, Bool, true, ◌&&◌, List, [], ◌∷◌, ◌++◌, length, take, drop, map, sum_by, ℤ, pos, ◌+ℤ◌, ◌-ℤ◌, ◌*ℤ◌, ◌<ℤ◌, Ok, Err, Result, nat_eq, nat_le, nat_lt}
 use Rattle.std.specs.List.{range_with_len}
-use Rattle.exact.specs.Rounding.{over, nearest}
+use Rattle.exact.specs.Rounding.{over, nearest_whole}
 use Rattle.refusals.specs.declared.refusal.Refusal.{Refusal}
 use Rattle.refusals.specs.declared.refusal.Refusal.TheVariants.{TooFewPlaces}
-use Rattle.refusals.specs.Refusals.{refusal_number, Conditions, Decided}
+use Rattle.refusals.specs.Refusals.{refusal_number, Conditions, GivesOrRefuses}
 use Rattle.totals.specs.Sums.{Sums}
 use Rattle.pages.specs.declared.figure.Figure.{Figure}
 use Rattle.pages.specs.Cuts.{Assignment}
 
 -- grams in whole kilograms
-abbrev pub kilograms : ℤ → ℤ
-kilograms grams = nearest (over grams 1000)
+abbrev pub whole_kilograms : ℤ → ℤ
+whole_kilograms grams = nearest_whole (over grams 1000)
 
 -- what any choice of headings comes to
-abbrev pub under : Assignment → Sums → Sums
-under cut sums = record { grams = λ choice. sums.grams (λ row. choice (cut.heading row)); counts = λ choice. sums.counts (λ row. choice (cut.heading row)) }
+abbrev pub heading_sums : Assignment → Sums → Sums
+heading_sums cut sums = record { grams = λ choice. sums.grams (λ row. choice (cut.heading row)); counts = λ choice. sums.counts (λ row. choice (cut.heading row)) }
 
 -- the grams of the headings up to k
-abbrev pub running : Assignment → Sums → ℕ → ℤ
-running cut sums k = (under cut sums).grams (λ h. nat_le h k)
+abbrev pub running_sum : Assignment → Sums → ℕ → ℤ
+running_sum cut sums k = (heading_sums cut sums).grams (λ h. nat_le h k)
 
 -- the figure of the heading k: its rounded running sum less the one before, and the count of its entries
 abbrev pub heading_figure : Assignment → Sums → ℕ → Figure
 heading_figure cut sums k = record {
-  kilograms = kilograms (running cut sums k) -ℤ kilograms (running cut sums (k - 1));
-  count = (under cut sums).counts (λ h. nat_eq h k);
+  kilograms = whole_kilograms (running_sum cut sums k) -ℤ whole_kilograms (running_sum cut sums (k - 1));
+  count = (heading_sums cut sums).counts (λ h. nat_eq h k);
 }
 
 -- the figures of all headings, in their order
@@ -34,11 +34,11 @@ page_figures cut sums = map (heading_figure cut sums) (range_with_len 1 cut.size
 
 -- the figure of the total, over every row
 abbrev pub total_figure : Sums → Figure
-total_figure sums = record { kilograms = kilograms (sums.grams (λ row. true)); count = sums.counts (λ row. true) }
+total_figure sums = record { kilograms = whole_kilograms (sums.grams (λ row. true)); count = sums.counts (λ row. true) }
 
 -- a page needs a place for each heading
-abbrev pub room : Assignment → List Figure → Conditions
-room cut before = (refusal_number TooFewPlaces, cut.size ≤ length before) ∷ []
+abbrev pub room_conditions : Assignment → List Figure → Conditions
+room_conditions cut before = (refusal_number TooFewPlaces, cut.size ≤ length before) ∷ []
 
 -- what is left in the places: a figure for each heading and the other places untouched, or all of them untouched
 abbrev pub Leaves : Assignment → Sums → List Figure → Result Figure Refusal → List Figure → Type 0
@@ -47,28 +47,28 @@ Leaves cut sums before (Err f) after = after ≡ before
 
 -- r is what writing a page answers, and after is what the places then hold
 pub record Writes (cut : Assignment) (sums : Sums) (before : List Figure) (r : Result Figure Refusal) (after : List Figure) : Type 0 where
-  pub answer : Decided (room cut before) (λ total. total ≡ total_figure sums) r
+  pub answer : GivesOrRefuses (room_conditions cut before) (λ total. total ≡ total_figure sums) r
   pub places : Leaves cut sums before r after
 
 -- the kilograms of figures, added as they are printed
-abbrev pub printed : List Figure → ℤ
-printed [] = pos 0
-printed (f ∷ fs) = f.kilograms +ℤ printed fs
+abbrev pub printed_kilograms : List Figure → ℤ
+printed_kilograms [] = pos 0
+printed_kilograms (f ∷ fs) = f.kilograms +ℤ printed_kilograms fs
 
 -- the headings after i and up to j
-abbrev pub run : ℕ → ℕ → ℕ → Bool
-run i j h = nat_lt i h && nat_le h j
+abbrev pub is_between : ℕ → ℕ → ℕ → Bool
+is_between i j h = nat_lt i h && nat_le h j
 
 -- their figures
-abbrev pub between : ℕ → ℕ → List Figure → List Figure
-between i j fs = take (j - i) (drop i fs)
+abbrev pub figures_between : ℕ → ℕ → List Figure → List Figure
+figures_between i j fs = take (j - i) (drop i fs)
 
 -- the figures of a page add exactly to its total, in kilograms and in counts
 pub record AddUp (fs : List Figure) (total : Figure) : Type 0 where
-  pub kilograms : printed fs ≡ total.kilograms
+  pub kilograms : printed_kilograms fs ≡ total.kilograms
   pub counts : sum_by (λ f. f.count) fs ≡ total.count
 
 -- kilograms, taken in grams, lie less than a kilogram from the grams g
-pub record NearGrams (kg g : ℤ) : Type 0 where
+pub record IsNearGrams (kg g : ℤ) : Type 0 where
   pub least : g <ℤ (pos 1000 *ℤ kg +ℤ pos 1000)
   pub most : (pos 1000 *ℤ kg) <ℤ (g +ℤ pos 1000)

@@ -1,4 +1,4 @@
--- The types of emission. Assumes nothing.
+-- The types of emission.
 use Rattle.std.specs.Prelude.{ℕ, if◌then◌else◌, ◌||◌, ◌==◌}
 use Rattle.pages.specs.declared.by_type.EmissionType.{EmissionType}
 use Rattle.pages.specs.declared.by_type.EmissionType.TheVariants.{Direct, Indirect, Embodied, Sink}

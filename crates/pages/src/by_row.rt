@@ -1,4 +1,4 @@
-// The cut by row: each row is a heading of its own.
+//! The cut by row: each row is a heading of its own.
 ghost use Rattle.std.specs.Prelude.{refl};
 ghost use Rattle.pages.specs.Cuts.{by_row};
 ghost use Rattle.pages.specs.CutLaws.{by_row_lawful};

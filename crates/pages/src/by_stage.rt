@@ -1,4 +1,4 @@
-// The cut by stage of the building's life.
+//! The cut by stage of the building's life.
 ghost use Rattle.std.specs.Prelude.{refl};
 ghost use Rattle.pages.specs.Cuts.{by_stage};
 ghost use Rattle.pages.specs.CutLaws.{by_stage_lawful};

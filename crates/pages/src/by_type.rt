@@ -1,4 +1,4 @@
-// The cut by type of emission.
+//! The cut by type of emission.
 ghost use Rattle.std.specs.Prelude.{◌≡◌, refl};
 ghost use Rattle.booking.specs.Rows.{row_number};
 ghost use Rattle.pages.specs.Cuts.{by_type};
@@ -8,7 +8,7 @@ ghost use Rattle.pages.specs.CutLaws.{by_type_lawful};
 use crate::cut::Cut;
 use booking::Row;
 
-// What is burnt or leaks in use, what is used that others make, what is built in, and what is taken up.
+/// What is burnt or leaks in use, what is used that others make, what is built in, and what is taken up.
 #[derive(Clone, Copy, Debug, PartialEq, Eq)]
 pub enum EmissionType {
     Direct = 1,

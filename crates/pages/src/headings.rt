@@ -1,15 +1,15 @@
-// The totals under each heading of a cut.
+//! The totals under each heading of a cut.
 ghost use Rattle.std.specs.Prelude.{◌≡◌};
 ghost use Rattle.totals.specs.Sums.{sums_of};
-ghost use Rattle.pages.specs.Pages.{under};
+ghost use Rattle.pages.specs.Pages.{heading_sums};
 
 use crate::cut::Cut;
 use booking::Row;
 use totals::{ROWS, Totals};
 
 // The totals of the rows, added up by heading in one pass: what stands first is the first heading's.
-pub(crate) fn by_heading<C: Cut>(totals: Totals, cut: &C) -> Totals
-    ensures { sums_of result ≡ under (C.assignment cut.now) (sums_of totals) }
+pub(crate) fn totals_by_heading<C: Cut>(totals: Totals, cut: &C) -> Totals
+    ensures { sums_of result ≡ heading_sums (C.assignment cut.now) (sums_of totals) }
 {
     let mut grams = [0; ROWS];
     let mut counts = [0; ROWS];

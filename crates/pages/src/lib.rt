@@ -1,4 +1,4 @@
-// The page of a sheet: its rows under the headings of a cut, in whole kilograms that add up.
+//! The page of a sheet: its rows under the headings of a cut, in whole kilograms that add up.
 #![tactic(auto)]
 
 mod by_row;
@@ -14,4 +14,4 @@ pub use by_stage::ByStage;
 pub use by_type::ByType;
 pub use cut::Cut;
 pub use figure::Figure;
-pub use page::write;
+pub use page::write_page;

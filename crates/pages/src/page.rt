@@ -1,12 +1,12 @@
-// The page writer, one for every cut.
+//! The page writer, one for every cut.
 ghost use Rattle.std.specs.Prelude.{◌≡◌, ℕ, ◌≤◌, IfOk};
-ghost use Rattle.exact.specs.Rounding.{nearest, over};
+ghost use Rattle.exact.specs.Rounding.{nearest_whole, over};
 ghost use Rattle.totals.specs.Sums.{sums_of};
-ghost use Rattle.pages.specs.Pages.{Writes, AddUp, NearGrams, page_figures, under, printed, between, run};
+ghost use Rattle.pages.specs.Pages.{Writes, AddUp, IsNearGrams, page_figures, heading_sums, printed_kilograms, figures_between, is_between};
 
 use crate::cut::Cut;
 use crate::figure::Figure;
-use crate::headings::by_heading;
+use crate::headings::totals_by_heading;
 use exact::Ratio;
 use refusals::Refusal;
 use totals::Totals;
@@ -14,17 +14,17 @@ use totals::Totals;
 // A kilogram in grams.
 const KILOGRAM: u32 = 1_000;
 
-// Writes the figure of each heading into the first places, as many as the cut has headings, and answers the total.
-// The running sum of grams is rounded, and a heading is what its rounded running sum is more than the one before: so the headings add up to the total, whatever each of them would be rounded to alone.
-pub fn write<C: Cut>(totals: Totals, cut: &C, figures: &mut [Figure]) -> Result<Figure, Refusal>
+/// Writes the figure of each heading into the first places, as many as the cut has headings, and answers the total.
+/// The running sum of grams is rounded, and a heading is what its rounded running sum is more than the one before: so the headings add up to the total, whatever each of them would be rounded to alone.
+pub fn write_page<C: Cut>(totals: Totals, cut: &C, figures: &mut [Figure]) -> Result<Figure, Refusal>
     ensures value { Writes (C.assignment cut.now) (sums_of totals) figures.old result figures.new }
     ensures adds { IfOk result (λ total. AddUp (page_figures (C.assignment cut.now) (sums_of totals)) total) }
-    ensures near { (i j : ℕ) → i ≤ j → j ≤ C.HEADINGS → NearGrams (printed (between i j (page_figures (C.assignment cut.now) (sums_of totals)))) ((under (C.assignment cut.now) (sums_of totals)).grams (run i j)) }
+    ensures near { (i j : ℕ) → i ≤ j → j ≤ C.HEADINGS → IsNearGrams (printed_kilograms (figures_between i j (page_figures (C.assignment cut.now) (sums_of totals)))) ((heading_sums (C.assignment cut.now) (sums_of totals)).grams (is_between i j)) }
 {
     if figures.len() < C::HEADINGS {
         return Err(Refusal::TooFewPlaces);
     }
-    let sums = by_heading(totals, cut);
+    let sums = totals_by_heading(totals, cut);
     let mut running = 0;
     let mut total = Figure {
         kilograms: 0,
@@ -32,7 +32,7 @@ pub fn write<C: Cut>(totals: Totals, cut: &C, figures: &mut [Figure]) -> Result<
     };
     for k in 0..C::HEADINGS {
         running += sums.grams[k];
-        let kilograms = in_kilograms(running);
+        let kilograms = whole_kilograms(running);
         figures[k] = Figure {
             kilograms: kilograms - total.kilograms,
             count: sums.counts[k],
@@ -45,12 +45,12 @@ pub fn write<C: Cut>(totals: Totals, cut: &C, figures: &mut [Figure]) -> Result<
     Ok(total)
 }
 
-fn in_kilograms(grams: i64) -> i64
-    ensures { result ≡ nearest (over grams 1000) }
+fn whole_kilograms(grams: i64) -> i64
+    ensures { result ≡ nearest_whole (over grams 1000) }
 {
     let exact = Ratio {
         numerator: grams,
         divisor: KILOGRAM,
     };
-    exact.nearest()
+    exact.round()
 }

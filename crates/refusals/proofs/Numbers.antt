@@ -1,9 +1,9 @@
--- A refusal by its number. Assumes nothing.
+-- A refusal by its number.
 use Rattle.std.proofs.Common.{◌≡◌, [], ◌++◌, codes, decimal, arith}
 use Rattle.refusals.specs.declared.refusal.Refusal.{Refusal}
 use Rattle.refusals.specs.declared.refusal.Refusal.TheVariants.{Unframed}
 use Rattle.refusals.specs.Refusals.{refusal_number, refusal_codes}
-use Rattle.refusals.specs.Texts.{codes_said, refusal_said}
+use Rattle.refusals.specs.RefusalTexts.{codes_text, refusal_text}
 
 pub number_one : (f : Refusal) → refusal_number f ≡ 1 → f ≡ Unframed
 number_one f e = grind arith
@@ -13,5 +13,5 @@ pub no_codes : (f : Refusal) → (refusal_number f ≡ 8 → ⊥) → refusal_co
 no_codes f other = grind arith
 
 -- a refusal's words depend on its number and its codes alone
-pub same_words : (f g : Refusal) → refusal_number f ≡ refusal_number g → refusal_codes f ≡ refusal_codes g → refusal_said f ≡ refusal_said g
-same_words f g number named i = codes "refused " ++ (decimal (number i) ++ codes_said (named i))
+pub same_words : (f g : Refusal) → refusal_number f ≡ refusal_number g → refusal_codes f ≡ refusal_codes g → refusal_text f ≡ refusal_text g
+same_words f g number named i = codes "refused " ++ (decimal (number i) ++ codes_text (named i))

@@ -1,4 +1,4 @@
--- The numbers of refusals, and which of several is told. Assumes nothing.
+-- The numbers of refusals, and which of several is told.
 use Rattle.std.specs.Prelude.{◌≡◌, ℕ, ◌<◌, ◌⊎◌, List, [], ◌∷◌, Ok, Err, Result}
 use Rattle.refusals.specs.declared.refusal.Refusal.{Refusal}
 use Rattle.refusals.specs.declared.refusal.Refusal.TheVariants.{Unframed, UnwantedKind, WrongLength, OutOfRange, UnknownRow, UnfitSpan, UnfitQuantity, FactorLacking, UnfitUnit, TooLarge, TooFewPlaces, Superseded, Contradicted, BookFull, TooManyRows, FeedTooLong}
@@ -36,18 +36,18 @@ abbrev pub Conditions : Type 1
 Conditions = List (ℕ × Type 0)
 
 -- all of the conditions hold
-abbrev pub Kept : Conditions → Type 0
-Kept [] = Unit {0}
-Kept (c ∷ cs) = c.1 × Kept cs
+abbrev pub AllHold : Conditions → Type 0
+AllHold [] = Unit {0}
+AllHold (c ∷ cs) = c.1 × AllHold cs
 
 -- a condition with the number n fails
-abbrev pub Broken : Conditions → ℕ → Type 0
-Broken [] n = ⊥
-Broken (c ∷ cs) n = ((n ≡ c.0) × (c.1 → ⊥)) ⊎ Broken cs n
+abbrev pub OneFails : Conditions → ℕ → Type 0
+OneFails [] n = ⊥
+OneFails (c ∷ cs) n = ((n ≡ c.0) × (c.1 → ⊥)) ⊎ OneFails cs n
 
 -- n is the smallest number of the conditions that fail
-abbrev pub Least : Conditions → ℕ → Type 0
-Least cs n = Broken cs n × ((m : ℕ) → m < n → Broken cs m → ⊥)
+abbrev pub IsLeastFailing : Conditions → ℕ → Type 0
+IsLeastFailing cs n = OneFails cs n × ((m : ℕ) → m < n → OneFails cs m → ⊥)
 
 -- the number of a call's answer: 0 where it gives a value, and else that of its refusal
 abbrev pub answer_number : {X : Type 0} → Result X Refusal → ℕ
@@ -55,16 +55,16 @@ answer_number (Ok x) = 0
 answer_number (Err f) = refusal_number f
 
 -- a call answers by the number n to what it asks for: 0 where all conditions hold, and else the smallest number of one that fails
-pub record Told (cs : Conditions) (n : ℕ) : Type 0 where
-  pub kept : n ≡ 0 → Kept cs
-  pub least : 0 < n → Least cs n
+pub record IsAnswerNumber (cs : Conditions) (n : ℕ) : Type 0 where
+  pub kept : n ≡ 0 → AllHold cs
+  pub least : 0 < n → IsLeastFailing cs n
 
 -- a call gives a value, of which Q holds, where all conditions hold, and else refuses by the smallest number
-abbrev pub Decided : {X : Type 0} → Conditions → (X → Type 0) → Result X Refusal → Type 0
-Decided cs Q (Ok x) = Kept cs × Q x
-Decided cs Q (Err f) = Least cs (refusal_number f)
+abbrev pub GivesOrRefuses : {X : Type 0} → Conditions → (X → Type 0) → Result X Refusal → Type 0
+GivesOrRefuses cs Q (Ok x) = AllHold cs × Q x
+GivesOrRefuses cs Q (Err f) = IsLeastFailing cs (refusal_number f)
 
 -- where P holds, a call gives a value of which Q holds, and else the refusal f
-abbrev pub Judged : {X : Type 0} → Type 0 → Refusal → (X → Type 0) → Result X Refusal → Type 0
-Judged P f Q (Ok x) = P × Q x
-Judged P f Q (Err e) = (e ≡ f) × (P → ⊥)
+abbrev pub GivesOrRefusesBy : {X : Type 0} → Type 0 → Refusal → (X → Type 0) → Result X Refusal → Type 0
+GivesOrRefusesBy P f Q (Ok x) = P × Q x
+GivesOrRefusesBy P f Q (Err e) = (e ≡ f) × (P → ⊥)

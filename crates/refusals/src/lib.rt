@@ -1,8 +1,8 @@
-// Why calls are refused, and which of several reasons is told.
+//! Why calls are refused, and which of several reasons is told.
 #![tactic(auto)]
 
-mod lacking;
+mod lack_codes;
 mod refusal;
 
-pub use lacking::Lacking;
+pub use lack_codes::LackCodes;
 pub use refusal::Refusal;

@@ -1,8 +1,8 @@
--- The lines of headings, one after the other. Assumes nothing.
+-- The lines of headings, one after the other.
 use Rattle.std.proofs.Common.{◌≡◌, ℕ, ◌+◌, ◌<◌, List, [], ◌∷◌, ◌++◌, length, get_or, take, decimal, sym, ap, ◌∙◌, append_assoc, append-nil, arith}
 use Rattle.std.proofs.lemmas.List.{take_more, length-take-le}
 use Rattle.pages.specs.declared.figure.Figure.{Figure}
-use Rattle.report.specs.Lines.{figure_line, heading_lines}
+use Rattle.report.specs.ReportLines.{figure_line, heading_lines}
 
 -- one heading more
 heading_more : (k : ℕ) (fs : List Figure) (f : Figure) → heading_lines k (fs ++ (f ∷ [])) ≡ heading_lines k fs ++ figure_line (decimal (k + length fs)) f

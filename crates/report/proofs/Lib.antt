@@ -1,6 +1,6 @@
-mod Rows
+mod OwnRows
 mod Opening
-mod Sent
+mod Sends
 mod Headings
 mod Concluding
 mod Only

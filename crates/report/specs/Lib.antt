@@ -1,5 +1,5 @@
-pub mod Lines
+pub mod ReportLines
 pub mod Projects
 pub mod Calls
-pub mod Accounts
+pub mod ProjectReports
 pub mod Reports

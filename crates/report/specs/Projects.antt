@@ -1,33 +1,33 @@
--- What a feed opens with: its building, and the project's own factors. Assumes nothing.
+-- What a feed opens with: its building, and the project's own factors.
 use Rattle.std.specs.Prelude.{◌≡◌, ℕ, ◌<◌, ◌≤◌, List, [], ◌∷◌, ◌++◌, length, Ok, Err, Result, Vec, vec_items}
 use Rattle.refusals.specs.declared.refusal.Refusal.{Refusal}
 use Rattle.refusals.specs.declared.refusal.Refusal.TheVariants.{TooManyRows, FeedTooLong}
-use Rattle.refusals.specs.Refusals.{Conditions, Least, Kept, Decided, refusal_number}
+use Rattle.refusals.specs.Refusals.{Conditions, IsLeastFailing, AllHold, GivesOrRefuses, refusal_number}
 use Rattle.domain.specs.declared.building.Building.{Building}
 use Rattle.domain.specs.declared.building.BuildingNumbers.{BuildingNumbers}
 use Rattle.domain.specs.declared.factor.FactorRow.{FactorRow}
 use Rattle.domain.specs.Buildings.{numbers_of}
 use Rattle.feed.specs.declared.kind.Kind.TheVariants.{Factor as FactorNote}
-use Rattle.feed.specs.Factors.{IsFactorRow}
+use Rattle.feed.specs.FactorFields.{IsFactorRow}
 use Rattle.feed.specs.Frames.{first_note}
 use Rattle.feed.specs.Openings.{OpensWith}
-use Rattle.feed.specs.Readings.{ReadsBuilding, readable}
+use Rattle.feed.specs.Readings.{ReadsBuilding, reading_conditions}
 use Rattle.std.specs.declared.alloc.Global.{Global}
 use Rattle.report.specs.declared.project.Project.{Project}
 use Rattle.feed.specs.declared.opening.OpeningError.{OpeningError}
 use Rattle.feed.specs.declared.opening.OpeningError.TheVariants.{Refused, OutOfMemory}
 
 -- what is asked of a feed before any note of it is read
-abbrev pub sized : List ℕ → Conditions
-sized feed = (refusal_number FeedTooLong, length feed ≤ 65536) ∷ []
+abbrev pub size_conditions : List ℕ → Conditions
+size_conditions feed = (refusal_number FeedTooLong, length feed ≤ 65536) ∷ []
 
 -- what is asked of a note that is read as a factor row, after n others
-abbrev pub row_asked : ℕ → List ℕ → Conditions
-row_asked n note = readable (λ kind. kind ≡ FactorNote) note ++ ((refusal_number TooManyRows, n < 256) ∷ [])
+abbrev pub row_conditions : ℕ → List ℕ → Conditions
+row_conditions n note = reading_conditions (λ kind. kind ≡ FactorNote) note ++ ((refusal_number TooManyRows, n < 256) ∷ [])
 
 -- r is what reading it answers
 abbrev pub ReadsRow : ℕ → List ℕ → Result FactorRow Refusal → Type 0
-ReadsRow n note r = Decided (row_asked n note) (IsFactorRow (first_note note)) r
+ReadsRow n note r = GivesOrRefuses (row_conditions n note) (IsFactorRow (first_note note)) r
 
 -- a building, the project's own factors, and the bytes after them, from which all else is sent
 pub record ProjectParts : Type 0 where
@@ -35,8 +35,8 @@ pub record ProjectParts : Type 0 where
   pub rows : List FactorRow
   pub notes : List ℕ
 
-abbrev pub parts : BuildingNumbers → List FactorRow → List ℕ → ProjectParts
-parts building rows notes = record { building = building; rows = rows; notes = notes }
+abbrev pub project_parts : BuildingNumbers → List FactorRow → List ℕ → ProjectParts
+project_parts building rows notes = record { building = building; rows = rows; notes = notes }
 
 -- what becomes of rows as notes are read as the rows after them, one after the other: a project has all of them, or the first that is refused decides
 pub data TakesRows : List FactorRow → List (List ℕ) → Result (List FactorRow) Refusal → Type 0 where
@@ -46,14 +46,14 @@ pub data TakesRows : List FactorRow → List (List ℕ) → Result (List FactorR
 
 -- what a feed opens with, or why it is refused before anything is sent: it is too long, its first note is no building, or a factor row after that is refused
 pub data Opens (feed : List ℕ) : Result ProjectParts Refusal → Type 0 where
-  too_long : {f : Refusal} → Least (sized feed) (refusal_number f) → Opens feed (Err f)
-  no_building : {f : Refusal} → Kept (sized feed) → ReadsBuilding feed (Err f) → Opens feed (Err f)
-  row_refused : {b : Building} {notes : List (List ℕ)} {left : List ℕ} {f : Refusal} → Kept (sized feed) → OpensWith feed b notes left → TakesRows [] notes (Err f) → Opens feed (Err f)
-  project : {b : Building} {notes : List (List ℕ)} {left : List ℕ} {rows : List FactorRow} → Kept (sized feed) → OpensWith feed b notes left → TakesRows [] notes (Ok rows) → Opens feed (Ok (parts (numbers_of b) rows left))
+  too_long : {f : Refusal} → IsLeastFailing (size_conditions feed) (refusal_number f) → Opens feed (Err f)
+  no_building : {f : Refusal} → AllHold (size_conditions feed) → ReadsBuilding feed (Err f) → Opens feed (Err f)
+  row_refused : {b : Building} {notes : List (List ℕ)} {left : List ℕ} {f : Refusal} → AllHold (size_conditions feed) → OpensWith feed b notes left → TakesRows [] notes (Err f) → Opens feed (Err f)
+  project : {b : Building} {notes : List (List ℕ)} {left : List ℕ} {rows : List FactorRow} → AllHold (size_conditions feed) → OpensWith feed b notes left → TakesRows [] notes (Ok rows) → Opens feed (Ok (project_parts (numbers_of b) rows left))
 
 -- a project by what its feed opens with
-abbrev pub parts_of : Project → ProjectParts
-parts_of p = parts (numbers_of p.building) (vec_items p.rows) p.notes.now
+abbrev pub parts_of_project : Project → ProjectParts
+parts_of_project p = project_parts (numbers_of p.building) (vec_items p.rows) p.notes.now
 
 -- r is what gathering a project's rows from notes answers, where memory suffices
 abbrev pub ReadsRows : List (List ℕ) → Result (Vec FactorRow Global) OpeningError → Type 0
@@ -63,6 +63,6 @@ ReadsRows notes (Err (OutOfMemory e)) = Unit {0}
 
 -- r is what reading a project answers, where memory suffices
 abbrev pub ReadsProject : List ℕ → Result Project OpeningError → Type 0
-ReadsProject feed (Ok p) = Opens feed (Ok (parts_of p))
+ReadsProject feed (Ok p) = Opens feed (Ok (parts_of_project p))
 ReadsProject feed (Err (Refused f)) = Opens feed (Err f)
 ReadsProject feed (Err (OutOfMemory e)) = Unit {0}

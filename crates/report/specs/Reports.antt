@@ -1,21 +1,21 @@
--- The report of a feed. Assumes nothing.
+-- The report of a feed.
 use Rattle.std.specs.Prelude.{◌≡◌, ℕ, List, Ok, Err}
 use Rattle.refusals.specs.declared.refusal.Refusal.{Refusal}
-use Rattle.report.specs.Accounts.{Accounts, Concludes}
-use Rattle.report.specs.Lines.{denied_line}
+use Rattle.report.specs.ProjectReports.{IsProjectReport, EndsLawfully}
+use Rattle.report.specs.ReportLines.{denied_line}
 use Rattle.report.specs.Projects.{ProjectParts, Opens}
 
 -- text is what is written for a feed: the refusal before its notes, and nothing more, or the account of its project
-pub data Reports (feed text : List ℕ) : Type 0 where
-  denied : {f : Refusal} → Opens feed (Err f) → text ≡ denied_line 0 f → Reports feed text
-  account : {c : ProjectParts} → Opens feed (Ok c) → Accounts c text → Reports feed text
+pub data IsReportText (feed text : List ℕ) : Type 0 where
+  denied : {f : Refusal} → Opens feed (Err f) → text ≡ denied_line 0 f → IsReportText feed text
+  account : {c : ProjectParts} → Opens feed (Ok c) → IsProjectReport c text → IsReportText feed text
 
 -- where a feed is not refused before its notes, its report ends with a page and a grade of which the law over histories holds
-abbrev pub LawfulReport : List ℕ → List ℕ → Type 0
-LawfulReport feed text = (c : ProjectParts) → Opens feed (Ok c) → Concludes c text
+abbrev pub IsLawfulReport : List ℕ → List ℕ → Type 0
+IsLawfulReport feed text = (c : ProjectParts) → Opens feed (Ok c) → EndsLawfully c text
 
 -- text is the report of a feed, no other is, and the law over histories holds of it
 pub record IsReport (feed text : List ℕ) : Type 0 where
-  pub reports : Reports feed text
-  pub only : (other : List ℕ) → Reports feed other → other ≡ text
-  pub law : LawfulReport feed text
+  pub reports : IsReportText feed text
+  pub only : (other : List ℕ) → IsReportText feed other → other ≡ text
+  pub law : IsLawfulReport feed text

@@ -1,25 +1,24 @@
-// A project: the building that a feed opens with, and its own factors.
+//! A project: the building that a feed opens with, and its own factors.
 ghost use Rattle.std.specs.Prelude.{List, ℕ, ◌≤◌, length};
 ghost use Rattle.feed.specs.Readings.{ReadsFactorRow};
-ghost use Rattle.feed.specs.Rows.{RowsRead};
+ghost use Rattle.feed.specs.FactorRows.{ReadsEachRow};
 ghost use Rattle.refusals.specs.declared.refusal.Refusal.TheVariants.{FeedTooLong};
-ghost use Rattle.refusals.specs.Refusals.{Judged};
+ghost use Rattle.refusals.specs.Refusals.{GivesOrRefusesBy};
 ghost use Rattle.report.specs.Projects.{ReadsProject, ReadsRow, ReadsRows};
 
 use domain::{Building, FactorRow};
-use feed::input::MOST_BYTES;
-use feed::opening::{Opening, OpeningError};
+use feed::{MAX_BYTES, Opening, OpeningError};
 use refusals::Refusal;
 use std::alloc::Global;
 
 // The most rows that a project lists.
-const MOST_ROWS: usize = 256;
+const MAX_ROWS: usize = 256;
 
 #[derive(Debug, Drop)]
 pub(crate) struct Project<'a> {
     pub building: Building,
     pub rows: Vec<FactorRow>,
-    // what comes after those, to be sent
+    /// what comes after those, to be sent
     pub notes: &'a [u8],
 }
 
@@ -28,21 +27,21 @@ impl<'a> Project<'a> {
     pub(crate) fn read(heap: Global, feed: &'a [u8]) -> Result<Project<'a>, OpeningError>
         ensures { ReadsProject feed.now result }
     {
-        short(feed)?;
+        check_length(feed)?;
         let opening = Opening::read(heap, feed)?;
         let rows = own_rows(heap, opening.rows.as_slice())?;
         Ok(Project {
             building: opening.building,
             rows,
-            notes: opening.rest.left().bytes,
+            notes: opening.rest.rest().bytes,
         })
     }
 }
 
-fn short(feed: &[u8]) -> Result<(), Refusal>
-    ensures { Judged (length feed.now ≤ 65536) FeedTooLong (λ _. Unit {0}) result }
+fn check_length(feed: &[u8]) -> Result<(), Refusal>
+    ensures { GivesOrRefusesBy (length feed.now ≤ 65536) FeedTooLong (λ _. Unit {0}) result }
 {
-    if feed.len() > MOST_BYTES {
+    if feed.len() > MAX_BYTES {
         return Err(Refusal::FeedTooLong);
     }
     Ok(())
@@ -53,7 +52,7 @@ fn own_rows(
     heap: Global,
     answers: &[Result<FactorRow, Refusal>],
 ) -> Result<Vec<FactorRow>, OpeningError>
-    ensures { (notes : List (List ℕ)) → RowsRead notes answers.now → ReadsRows notes result }
+    ensures { (notes : List (List ℕ)) → ReadsEachRow notes answers.now → ReadsRows notes result }
 {
     let mut rows = Vec::new(heap);
     for answer in answers {
@@ -68,7 +67,7 @@ fn own_row(answer: Result<FactorRow, Refusal>, before: usize) -> Result<FactorRo
     ensures { (note : List ℕ) → ReadsFactorRow note answer → ReadsRow before note result }
 {
     let row = answer?;
-    if before >= MOST_ROWS {
+    if before >= MAX_ROWS {
         return Err(Refusal::TooManyRows);
     }
     Ok(row)

@@ -1,14 +1,14 @@
-// Sending notes into a sheet.
+//! Sending notes into a sheet.
 ghost use Rattle.std.specs.Prelude.{◌≡◌, IfOk, string_bytes};
-ghost use Rattle.factors.specs.Maps.{Map};
+ghost use Rattle.factors.specs.Maps.{FactorMap};
 ghost use Rattle.domain.specs.declared.building.BuildingNumbers.{BuildingNumbers};
-ghost use Rattle.report.specs.Accounts.{AllSent};
-ghost use Rattle.report.specs.Calls.{SendWritten};
-ghost use Rattle.sheet.specs.States.{state_of, opened};
+ghost use Rattle.report.specs.ProjectReports.{SendsAll};
+ghost use Rattle.report.specs.Calls.{WritesSend};
+ghost use Rattle.sheet.specs.States.{state_of, new_state};
 
-use crate::lines::denied_line;
+use crate::report_lines::denied_line;
 use factors::FactorSource;
-use feed::reader::{Part, Reader};
+use feed::{Part, Reader};
 use sheet::Sheet;
 use std::alloc::{AllocError, Global};
 
@@ -19,7 +19,7 @@ pub(crate) fn send_all<S: FactorSource>(
     sheet: &mut Sheet<S>,
     notes: &[u8],
 ) -> Result<String, AllocError>
-    ensures { (b : BuildingNumbers) (known : Map) → state_of S.known sheet.old ≡ opened b known → IfOk result (λ text. AllSent b known notes.now (state_of S.known sheet.new) (string_bytes text)) }
+    ensures { (b : BuildingNumbers) (factor_map : FactorMap) → state_of S.factor_map sheet.old ≡ new_state b factor_map → IfOk result (λ text. SendsAll b factor_map notes.now (state_of S.factor_map sheet.new) (string_bytes text)) }
 {
     let mut text = String::new(heap);
     let mut reader = Reader::new(notes);
@@ -27,7 +27,7 @@ pub(crate) fn send_all<S: FactorSource>(
         let line = send(heap, sheet, &part)?;
         text.push_str(line.as_str())?;
     }
-    let left = reader.left();
+    let left = reader.rest();
     if left.bytes.is_empty() {
         return Ok(text);
     }
@@ -42,7 +42,7 @@ fn send<S: FactorSource>(
     sheet: &mut Sheet<S>,
     part: &Part,
 ) -> Result<String, AllocError>
-    ensures { IfOk result (λ text. SendWritten (state_of S.known sheet.old) part.now.place part.now.bytes.now (state_of S.known sheet.new) (string_bytes text)) }
+    ensures { IfOk result (λ text. WritesSend (state_of S.factor_map sheet.old) part.now.place part.now.bytes.now (state_of S.factor_map sheet.new) (string_bytes text)) }
 {
     match sheet.send(part.bytes) {
         Ok(()) => Ok(String::new(heap)),

@@ -1,77 +1,77 @@
--- What a send answers, step by step. Assumes nothing.
+-- What a send answers, step by step.
 use Rattle.std.proofs.Common.{◌≡◌, ℕ, List, ◌++◌, Some, None, Option, Ok, Err, Result, refl, subst}
 use Rattle.refusals.specs.declared.refusal.Refusal.{Refusal}
-use Rattle.refusals.specs.Refusals.{refusal_number, lack_number, Kept, Least, Decided}
-use Rattle.refusals.proofs.Deciding.{InOrder, least_on, least_stop, kept_both, untold, told_kept, told_least}
-use Rattle.factors.specs.Maps.{Map}
+use Rattle.refusals.specs.Refusals.{refusal_number, lack_number, AllHold, IsLeastFailing, GivesOrRefuses}
+use Rattle.refusals.proofs.Deciding.{InOrder, least_on, least_stop, both_hold, absent_not_least, answered_hold, answered_least}
+use Rattle.factors.specs.Maps.{FactorMap}
 use Rattle.feed.specs.Frames.{first_note}
-use Rattle.feed.specs.Readings.{readable}
-use Rattle.feed.specs.Sendings.{IsSent}
-use Rattle.booking.specs.Booked.{content}
+use Rattle.feed.specs.Readings.{reading_conditions}
+use Rattle.feed.specs.SentNotes.{IsSent}
+use Rattle.booking.specs.Booking.{booking_conditions}
 use Rattle.domain.specs.declared.building.BuildingNumbers.{BuildingNumbers}
 use Rattle.domain.specs.declared.entry.Entry.{Entry}
-use Rattle.sheet.specs.Notes.{note_of, entry_asked, Named}
+use Rattle.sheet.specs.RollNotes.{roll_note, entry_conditions, NamesLackOf}
 use Rattle.sheet.specs.declared.book.Book.{Book}
 use Rattle.sheet.specs.declared.place.Place.{Place}
-use Rattle.sheet.specs.Places.{Taken, taken_by, taken}
-use Rattle.sheet.specs.Placing.{placing, placed, Puts}
-use Rattle.sheet.specs.States.{State, asked, send_asked, line_sent, Sends}
+use Rattle.sheet.specs.Places.{PlaceNumbers, place_numbers, book_places}
+use Rattle.sheet.specs.Placing.{placing_conditions, places_with, Puts}
+use Rattle.sheet.specs.States.{State, content_conditions, send_conditions, sent_place, Sends}
 
 -- what is asked of a note's content stands in the order in which it is told
-content_in_order : (y : ℕ) (known : Map) (bs : List ℕ) (e : Option Entry) → InOrder (readable IsSent bs ++ entry_asked y known e)
-unfolding content
-content_in_order y known bs None = refl
-content_in_order y known bs (Some e) = refl
+content_in_order : (y : ℕ) (factor_map : FactorMap) (bs : List ℕ) (e : Option Entry) → InOrder (reading_conditions IsSent bs ++ entry_conditions y factor_map e)
+unfolding booking_conditions
+content_in_order y factor_map bs None = refl
+content_in_order y factor_map bs (Some e) = refl
 
 -- and so does what is asked of a send
-send_in_order : (y : ℕ) (known : Map) (bs : List ℕ) (e : Option Entry) (held : List Taken) (new : Taken) → InOrder ((readable IsSent bs ++ entry_asked y known e) ++ placing held new)
-unfolding content
-send_in_order y known bs None held new = refl
-send_in_order y known bs (Some e) held new = refl
+send_in_order : (y : ℕ) (factor_map : FactorMap) (bs : List ℕ) (e : Option Entry) (held : List PlaceNumbers) (new : PlaceNumbers) → InOrder ((reading_conditions IsSent bs ++ entry_conditions y factor_map e) ++ placing_conditions held new)
+unfolding booking_conditions
+send_in_order y factor_map bs None held new = refl
+send_in_order y factor_map bs (Some e) held new = refl
 
-pub in_order : (s : State) (bs : List ℕ) → InOrder (send_asked s bs)
-in_order s bs = send_in_order s.building.life s.known bs (note_of (first_note bs)).entry s.held (line_sent s bs)
+pub in_order : (s : State) (bs : List ℕ) → InOrder (send_conditions s bs)
+in_order s bs = send_in_order s.building.life s.factor_map bs (roll_note (first_note bs)).entry s.places (sent_place s bs)
 
 -- a refusal that is none for want of a factor has no codes to name
-unnamed : (y : ℕ) (known : Map) (e : Option Entry) (f : Refusal) → (refusal_number f ≡ lack_number → ⊥) → Named y known e f
-unnamed y known None f other = tt
-unnamed y known (Some e) f other = λ is. absurd (other is)
+unnamed : (y : ℕ) (factor_map : FactorMap) (e : Option Entry) (f : Refusal) → (refusal_number f ≡ lack_number → ⊥) → NamesLackOf y factor_map e f
+unnamed y factor_map None f other = tt
+unnamed y factor_map (Some e) f other = λ is. absurd (other is)
 
 -- a note that cannot be read is unfit
-pub unread : (y : ℕ) (known : Map) (bs : List ℕ) (f : Refusal) → Least (readable IsSent bs) (refusal_number f) → Least (asked y known bs) (refusal_number f)
-unread y known bs f = least_stop (readable IsSent bs) (entry_asked y known (note_of (first_note bs)).entry) (refusal_number f) (content_in_order y known bs (note_of (first_note bs)).entry)
+pub unread : (y : ℕ) (factor_map : FactorMap) (bs : List ℕ) (f : Refusal) → IsLeastFailing (reading_conditions IsSent bs) (refusal_number f) → IsLeastFailing (content_conditions y factor_map bs) (refusal_number f)
+unread y factor_map bs f = least_stop (reading_conditions IsSent bs) (entry_conditions y factor_map (roll_note (first_note bs)).entry) (refusal_number f) (content_in_order y factor_map bs (roll_note (first_note bs)).entry)
 
 -- a note that is unfit is refused
-pub unfit : {s : State} {bs : List ℕ} {f : Refusal} → Least (asked s.building.life s.known bs) (refusal_number f) → Named s.building.life s.known (note_of (first_note bs)).entry f → Sends s bs (Err f) s
+pub unfit : {s : State} {bs : List ℕ} {f : Refusal} → IsLeastFailing (content_conditions s.building.life s.factor_map bs) (refusal_number f) → NamesLackOf s.building.life s.factor_map (roll_note (first_note bs)).entry f → Sends s bs (Err f) s
 unfit {s} {bs} {f} least named = record {
-  number = told_least (send_asked s bs) f (least_stop (asked s.building.life s.known bs) (placing s.held (line_sent s bs)) (refusal_number f) (in_order s bs) least);
+  number = answered_least (send_conditions s bs) f (least_stop (content_conditions s.building.life s.factor_map bs) (placing_conditions s.places (sent_place s bs)) (refusal_number f) (in_order s bs) least);
   let_in = tt;
   refused = refl;
   named = named;
 }
 
 -- a sheet by its building, its source's map, and its book
-abbrev pub sheet_of : BuildingNumbers → Map → Book → State
-sheet_of b known book = record { building = b; known = known; held = taken book }
+abbrev pub sheet_of : BuildingNumbers → FactorMap → Book → State
+sheet_of b factor_map book = record { building = b; factor_map = factor_map; places = book_places book }
 
 -- a note that is fit is answered as the book answers
-pub fit : {b : BuildingNumbers} {known : Map} {bs : List ℕ} {new : Place} {before after : Book} {r : Result (Unit {0}) Refusal} → Kept (asked b.life known bs) × (taken_by new ≡ line_sent (sheet_of b known before) bs) → Puts new before r after → Sends (sheet_of b known before) bs r (sheet_of b known after)
-fit {b = b} {known = known} {bs = bs} {before = before} {after = after} {r = Ok u} place puts =
-    let s = sheet_of b known before in
-    let put = subst (λ l. Decided (placing s.held l) (λ _. taken after ≡ placed l s.held) (Ok u)) place.1 puts.answer in
+pub fit : {b : BuildingNumbers} {factor_map : FactorMap} {bs : List ℕ} {new : Place} {before after : Book} {r : Result (Unit {0}) Refusal} → AllHold (content_conditions b.life factor_map bs) × (place_numbers new ≡ sent_place (sheet_of b factor_map before) bs) → Puts new before r after → Sends (sheet_of b factor_map before) bs r (sheet_of b factor_map after)
+fit {b = b} {factor_map = factor_map} {bs = bs} {before = before} {after = after} {r = Ok u} place puts =
+    let s = sheet_of b factor_map before in
+    let put = subst (λ l. GivesOrRefuses (placing_conditions s.places l) (λ _. book_places after ≡ places_with l s.places) (Ok u)) place.1 puts.answer in
     record {
-      number = told_kept (send_asked s bs) (kept_both (asked b.life known bs) (placing s.held (line_sent s bs)) place.0 put.0);
-      let_in = λ i. record { building = b; known = known; held = put.1 i };
+      number = answered_hold (send_conditions s bs) (both_hold (content_conditions b.life factor_map bs) (placing_conditions s.places (sent_place s bs)) place.0 put.0);
+      let_in = λ i. record { building = b; factor_map = factor_map; places = put.1 i };
       refused = tt;
       named = tt;
     }
-fit {b = b} {known = known} {bs = bs} {before = before} {r = Err f} place puts =
-    let s = sheet_of b known before in
-    let asks = placing s.held (line_sent s bs) in
-    let least : Least asks (refusal_number f) = subst (λ l. Least (placing s.held l) (refusal_number f)) place.1 puts.answer in
+fit {b = b} {factor_map = factor_map} {bs = bs} {before = before} {r = Err f} place puts =
+    let s = sheet_of b factor_map before in
+    let asks = placing_conditions s.places (sent_place s bs) in
+    let least : IsLeastFailing asks (refusal_number f) = subst (λ l. IsLeastFailing (placing_conditions s.places l) (refusal_number f)) place.1 puts.answer in
     record {
-      number = told_least (send_asked s bs) f (least_on (asked b.life known bs) asks (refusal_number f) place.0 least);
+      number = answered_least (send_conditions s bs) f (least_on (content_conditions b.life factor_map bs) asks (refusal_number f) place.0 least);
       let_in = tt;
-      refused = λ i. sheet_of b known (puts.refused i);
-      named = unnamed b.life known (note_of (first_note bs)).entry f (untold asks lack_number refl least);
+      refused = λ i. sheet_of b factor_map (puts.refused i);
+      named = unnamed b.life factor_map (roll_note (first_note bs)).entry f (absent_not_least asks lack_number refl least);
     }

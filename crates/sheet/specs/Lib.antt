@@ -1,9 +1,9 @@
 pub mod Places
 pub mod Placing
-pub mod Notes
+pub mod RollNotes
 pub mod States
 pub mod Rolls
-pub mod Lines
+pub mod LineSums
 pub mod Histories
 pub mod Laws
-pub mod Accounts
+pub mod PageAndGrade

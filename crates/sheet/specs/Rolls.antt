@@ -1,65 +1,65 @@
--- The roll: what the sends of a sheet come to, drawn from the bytes that were sent, the building's life in years and the source's map, and from no answer. Assumes nothing.
+-- The roll: what the sends of a sheet come to, drawn from the bytes that were sent, the building's life in years and the source's map, and from no answer.
 use Rattle.std.specs.Prelude.{◌≡◌, ℕ, ◌≤◌, if◌then◌else◌, List, [], ◌∷◌, ◌++◌, ◌==◌}
 use Rattle.std.specs.List.{AllByRecursion, flat_map}
 use Rattle.std.specs.Option.{option_to_list}
-use Rattle.refusals.specs.Refusals.{Broken}
-use Rattle.factors.specs.Maps.{Map}
+use Rattle.refusals.specs.Refusals.{OneFails}
+use Rattle.factors.specs.Maps.{FactorMap}
 use Rattle.feed.specs.Frames.{first_note}
 use Rattle.domain.specs.declared.entry.Entry.{Entry}
-use Rattle.sheet.specs.Notes.{Note, note_of}
-use Rattle.sheet.specs.Placing.{Room}
-use Rattle.sheet.specs.States.{asked}
+use Rattle.sheet.specs.RollNotes.{RollNote, roll_note}
+use Rattle.sheet.specs.Placing.{HasRoom}
+use Rattle.sheet.specs.States.{content_conditions}
 
 -- numbers, each once, in the order in which they first came, and with k
-abbrev pub with_number : ℕ → List ℕ → List ℕ
-with_number k [] = k ∷ []
-with_number k (j ∷ js) = if j == k then j ∷ js else j ∷ with_number k js
+abbrev pub numbers_with : ℕ → List ℕ → List ℕ
+numbers_with k [] = k ∷ []
+numbers_with k (j ∷ js) = if j == k then j ∷ js else j ∷ numbers_with k js
 
 -- the numbers of the notes on a roll, each once, in the order in which they first came. A roll has its latest note first
-abbrev pub numbers : List Note → List ℕ
+abbrev pub numbers : List RollNote → List ℕ
 numbers [] = []
-numbers (n ∷ roll) = with_number n.number (numbers roll)
+numbers (n ∷ roll) = numbers_with n.number (numbers roll)
 
 -- the note that bytes begin with
-abbrev pub note_sent : List ℕ → Note
-note_sent bs = note_of (first_note bs)
+abbrev pub note_of_bytes : List ℕ → RollNote
+note_of_bytes bs = roll_note (first_note bs)
 
-module _ (y : ℕ) (known : Map) where
+module _ (y : ℕ) (factor_map : FactorMap) where
   -- something that is asked of the content of bytes fails
-  abbrev pub Unfit : List ℕ → Type 0
-  Unfit bs = (n : ℕ) × Broken (asked y known bs) n
+  abbrev pub IsUnfit : List ℕ → Type 0
+  IsUnfit bs = (n : ℕ) × OneFails (content_conditions y factor_map bs) n
 
   -- the roll of sends, the latest first: a note is listed unless its content is unfit, or its number is not listed yet and 512 numbers are
-  pub data Roll : List (List ℕ) → List Note → Type 0 where
-    empty : Roll [] []
-    unfit : {sends : List (List ℕ)} {roll : List Note} (bs : List ℕ) → Roll sends roll → Unfit bs → Roll (bs ∷ sends) roll
-    unplaced : {sends : List (List ℕ)} {roll : List Note} (bs : List ℕ) → Roll sends roll → (Unfit bs → ⊥) → (Room (numbers roll) (note_sent bs).number → ⊥) → Roll (bs ∷ sends) roll
-    listed : {sends : List (List ℕ)} {roll : List Note} (bs : List ℕ) → Roll sends roll → (Unfit bs → ⊥) → Room (numbers roll) (note_sent bs).number → Roll (bs ∷ sends) (note_sent bs ∷ roll)
+  pub data IsRoll : List (List ℕ) → List RollNote → Type 0 where
+    empty : IsRoll [] []
+    unfit : {sends : List (List ℕ)} {roll : List RollNote} (bs : List ℕ) → IsRoll sends roll → IsUnfit bs → IsRoll (bs ∷ sends) roll
+    without_room : {sends : List (List ℕ)} {roll : List RollNote} (bs : List ℕ) → IsRoll sends roll → (IsUnfit bs → ⊥) → (HasRoom (numbers roll) (note_of_bytes bs).number → ⊥) → IsRoll (bs ∷ sends) roll
+    on_roll : {sends : List (List ℕ)} {roll : List RollNote} (bs : List ℕ) → IsRoll sends roll → (IsUnfit bs → ⊥) → HasRoom (numbers roll) (note_of_bytes bs).number → IsRoll (bs ∷ sends) (note_of_bytes bs ∷ roll)
 
 -- the note n decides for the number k: it is listed under k, none that is listed under k has a higher revision, and none before it has the same
-pub record Decides (roll : List Note) (k : ℕ) (n : Note) : Type 0 where
-  pub later : List Note
-  pub earlier : List Note
+pub record Decides (roll : List RollNote) (k : ℕ) (n : RollNote) : Type 0 where
+  pub later : List RollNote
+  pub earlier : List RollNote
   pub found : roll ≡ later ++ (n ∷ earlier)
   pub named : n.number ≡ k
   pub highest : AllByRecursion (λ m. m.number ≡ k → m.revision ≤ n.revision) roll
   pub first : AllByRecursion (λ m. m.number ≡ k → m.revision ≡ n.revision → ⊥) earlier
 
 -- these notes decide for these numbers, one for each
-pub data Deciding (roll : List Note) : List ℕ → List Note → Type 0 where
-  none : Deciding roll [] []
-  one : {k : ℕ} {ks : List ℕ} {n : Note} {ns : List Note} → Decides roll k n → Deciding roll ks ns → Deciding roll (k ∷ ks) (n ∷ ns)
+pub data AllDecide (roll : List RollNote) : List ℕ → List RollNote → Type 0 where
+  none : AllDecide roll [] []
+  one : {k : ℕ} {ks : List ℕ} {n : RollNote} {ns : List RollNote} → Decides roll k n → AllDecide roll ks ns → AllDecide roll (k ∷ ks) (n ∷ ns)
 
 -- the entries among notes
-abbrev pub entries_of : List Note → List Entry
+abbrev pub entries_of : List RollNote → List Entry
 entries_of ns = flat_map (λ n. option_to_list n.entry) ns
 
 -- these entries count, by what was sent: those of the notes that decide for the numbers on the roll. There is one such roll; for each of its numbers a note decides, and only one does
-pub record Counts (y : ℕ) (known : Map) (sends : List (List ℕ)) (entries : List Entry) : Type 0 where
-  pub roll : List Note
-  pub is_roll : Roll y known sends roll
-  pub only_roll : (other : List Note) → Roll y known sends other → other ≡ roll
-  pub deciding : List Note
-  pub decide : Deciding roll (numbers roll) deciding
-  pub only_one : (k : ℕ) (m n : Note) → Decides roll k m → Decides roll k n → m ≡ n
+pub record AreCounted (y : ℕ) (factor_map : FactorMap) (sends : List (List ℕ)) (entries : List Entry) : Type 0 where
+  pub roll : List RollNote
+  pub is_roll : IsRoll y factor_map sends roll
+  pub only_roll : (other : List RollNote) → IsRoll y factor_map sends other → other ≡ roll
+  pub deciding : List RollNote
+  pub decide : AllDecide roll (numbers roll) deciding
+  pub only_one : (k : ℕ) (m n : RollNote) → Decides roll k m → Decides roll k n → m ≡ n
   pub counted : entries ≡ entries_of deciding

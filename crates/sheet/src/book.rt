@@ -1,9 +1,9 @@
-// The book: a place for each number, in the order in which numbers first came.
+//! The book: a place for each number, in the order in which numbers first came.
 ghost use Rattle.std.specs.Prelude.{◌≡◌, ◌<◌, ◌≤◌, [], ◌==◌, length, Some, None, MatchBool};
 ghost use Rattle.std.specs.List.{position};
-ghost use Rattle.sheet.specs.Lines.{lines, sums_of_lines};
+ghost use Rattle.sheet.specs.LineSums.{held_lines, sums_of_lines};
 ghost use Rattle.totals.specs.Sums.{sums_of};
-ghost use Rattle.sheet.specs.Places.{in_use, taken};
+ghost use Rattle.sheet.specs.Places.{used_places, book_places};
 ghost use Rattle.sheet.specs.Placing.{Puts};
 
 use crate::place::{EMPTY, Place};
@@ -21,7 +21,7 @@ pub(crate) struct Book {
 
 impl Book {
     pub(crate) fn new() -> Book
-        ensures { taken result ≡ [] }
+        ensures { book_places result ≡ [] }
     {
         Book {
             places: [EMPTY; PLACES],
@@ -30,8 +30,8 @@ impl Book {
     }
 
     // As many as there are at most: a book is plain, and no bound on `used` is known of every one.
-    fn in_use(&self) -> &[Place]
-        ensures value { result.now ≡ in_use self.now }
+    fn used_places(&self) -> &[Place]
+        ensures value { result.now ≡ used_places self.now }
         ensures few { length result.now ≤ PLACES }
     {
         &self.places[..self.used.min(PLACES)]
@@ -39,11 +39,11 @@ impl Book {
 
     // What its lines come to, row by row.
     pub(crate) fn totals(&self) -> Totals
-        ensures { sums_of result ≡ sums_of_lines (lines (taken self.now)) }
+        ensures { sums_of result ≡ sums_of_lines (held_lines (book_places self.now)) }
     {
         let mut grams = [0; ROWS];
         let mut counts = [0; ROWS];
-        let places = self.in_use();
+        let places = self.used_places();
         for place in places {
             if let Some(line) = place.line() {
                 let row = line.row.index();
@@ -56,9 +56,9 @@ impl Book {
 
     // The place of a number.
     fn find(&self, number: u32) -> Option<usize>
-        ensures { result ≡ position (λ p. p.number == number) (in_use self.now) }
+        ensures { result ≡ position (λ p. p.number == number) (used_places self.now) }
     {
-        self.in_use()
+        self.used_places()
             .iter()
             .position(|place| place.number == number)
     }
@@ -75,7 +75,7 @@ impl Book {
 
     // In place of the line at this place, the first under its number.
     fn replace(&mut self, at: usize, new: Place) -> Result<(), Refusal>
-        requires { position (λ p. p.number == new.number) (in_use self.now) ≡ Some at }
+        requires { position (λ p. p.number == new.number) (used_places self.now) ≡ Some at }
         ensures { Puts new self.old result self.new }
     {
         new.replaces(&self.places[at])?;
@@ -85,7 +85,7 @@ impl Book {
 
     // In the next place, where none has its number.
     fn add(&mut self, new: Place) -> Result<(), Refusal>
-        requires { position (λ p. p.number == new.number) (in_use self.now) ≡ None }
+        requires { position (λ p. p.number == new.number) (used_places self.now) ≡ None }
         ensures { Puts new self.old result self.new }
     {
         if self.is_full() {

@@ -1,11 +1,11 @@
-// The sheet: a book of what was sent, and the pages and grades that are drawn from it.
+//! The sheet: a book of what was sent, and the pages and grades that are drawn from it.
 #![tactic(auto)]
 
-mod accounts;
+mod all_calls;
 mod book;
 mod place;
 mod record;
 mod sheet;
 
-pub use accounts::account;
+pub use all_calls::page_and_grade;
 pub use sheet::Sheet;

@@ -1,21 +1,21 @@
-// A place of the book, and what a note puts into one.
+//! A place of the book, and what a note puts into one.
 ghost use Rattle.std.specs.Prelude.{◌≡◌, Some, MatchBool, IfErr, option_map};
-ghost use Rattle.refusals.specs.Refusals.{Decided};
-ghost use Rattle.booking.specs.Booked.{line_numbers};
-ghost use Rattle.sheet.specs.Lines.{in_range};
-ghost use Rattle.sheet.specs.Notes.{entry_asked, Named, sent_note, taken_of};
-ghost use Rattle.sheet.specs.Places.{held_line, taken_by};
-ghost use Rattle.sheet.specs.Placing.{EqualLines, replacing};
+ghost use Rattle.refusals.specs.Refusals.{GivesOrRefuses};
+ghost use Rattle.booking.specs.Booking.{line_numbers};
+ghost use Rattle.sheet.specs.LineSums.{line_in_range};
+ghost use Rattle.sheet.specs.RollNotes.{entry_conditions, NamesLackOf, roll_note_of, note_place};
+ghost use Rattle.sheet.specs.Places.{content_line, place_numbers};
+ghost use Rattle.sheet.specs.Placing.{EqualLines, replacing_conditions};
 
 use crate::record::Record;
-use booking::Line;
+use booking::BookedLine;
 use domain::Building;
 use factors::FactorSource;
-use feed::sent::{Sent, SentContent};
+use feed::{SentContent, SentNote};
 use refusals::Refusal;
 
 #[derive(Clone, Copy, Debug, PartialEq, Eq)]
-pub(crate) enum Held {
+pub(crate) enum PlaceContent {
     Withdrawn,
     Entry(Record),
 }
@@ -25,24 +25,24 @@ pub(crate) enum Held {
 pub(crate) struct Place {
     pub number: u32,
     pub revision: u32,
-    pub held: Held,
+    pub content: PlaceContent,
 }
 
 // What stands in a place that is not in use.
 pub(crate) const EMPTY: Place = Place {
     number: 0,
     revision: 0,
-    held: Held::Withdrawn,
+    content: PlaceContent::Withdrawn,
 };
 
-impl Held {
+impl PlaceContent {
     // Whether both are withdrawn, or both say the same. Their grams follow from the rest.
-    fn equals(&self, other: &Held) -> bool
-        ensures { MatchBool result (EqualLines (held_line self.now) (held_line other.now)) (EqualLines (held_line self.now) (held_line other.now) → ⊥) }
+    fn equals(&self, other: &PlaceContent) -> bool
+        ensures { MatchBool result (EqualLines (content_line self.now) (content_line other.now)) (EqualLines (content_line self.now) (content_line other.now) → ⊥) }
     {
         match (self, other) {
-            (Held::Withdrawn, Held::Withdrawn) => true,
-            (Held::Entry(a), Held::Entry(b)) => {
+            (PlaceContent::Withdrawn, PlaceContent::Withdrawn) => true,
+            (PlaceContent::Entry(a), PlaceContent::Entry(b)) => {
                 a.row == b.row
                     && a.span == b.span
                     && a.code == b.code
@@ -56,40 +56,40 @@ impl Held {
 impl Place {
     // The place that a note takes, in a building and at the factors of a source.
     pub(crate) fn of<S: FactorSource>(
-        sent: &Sent,
+        sent: &SentNote,
         building: &Building,
         source: &S,
     ) -> Result<Place, Refusal>
-        ensures value { Decided (entry_asked building.now.life (S.known source.now) (sent_note sent.now).entry) (λ p. taken_by p ≡ taken_of building.now.life (S.known source.now) (sent_note sent.now)) result }
-        ensures named { IfErr result (Named building.now.life (S.known source.now) (sent_note sent.now).entry) }
+        ensures value { GivesOrRefuses (entry_conditions building.now.life (S.factor_map source.now) (roll_note_of sent.now).entry) (λ p. place_numbers p ≡ note_place building.now.life (S.factor_map source.now) (roll_note_of sent.now)) result }
+        ensures named { IfErr result (NamesLackOf building.now.life (S.factor_map source.now) (roll_note_of sent.now).entry) }
     {
-        let held = match sent.content {
+        let content = match sent.content {
             SentContent::Entry(entry) => {
                 let line = booking::book(building, source, &entry.into())?;
-                Held::Entry(line.into())
+                PlaceContent::Entry(line.into())
             }
-            SentContent::Withdrawal => Held::Withdrawn,
+            SentContent::Withdrawal => PlaceContent::Withdrawn,
         };
         Ok(Place {
             number: sent.number,
             revision: sent.revision,
-            held,
+            content,
         })
     }
 
     // Its line, if it has one in range.
-    pub(crate) fn line(&self) -> Option<Line>
-        ensures { option_map line_numbers result ≡ in_range (held_line self.now.held) }
+    pub(crate) fn line(&self) -> Option<BookedLine>
+        ensures { option_map line_numbers result ≡ line_in_range (content_line self.now.content) }
     {
-        match self.held {
-            Held::Withdrawn => None,
-            Held::Entry(record) => record.line(),
+        match self.content {
+            PlaceContent::Withdrawn => None,
+            PlaceContent::Entry(record) => record.line(),
         }
     }
 
     // Whether it may take the place of an older one under the same number.
     pub(crate) fn replaces(&self, old: &Place) -> Result<(), Refusal>
-        ensures { Decided (replacing (taken_by self.now) (Some (taken_by old.now))) (λ _. Unit {0}) result }
+        ensures { GivesOrRefuses (replacing_conditions (place_numbers self.now) (Some (place_numbers old.now))) (λ _. Unit {0}) result }
     {
         if self.revision < old.revision {
             return Err(Refusal::Superseded);
@@ -97,7 +97,7 @@ impl Place {
         if self.revision > old.revision {
             return Ok(());
         }
-        if self.held.equals(&old.held) {
+        if self.content.equals(&old.content) {
             Err(Refusal::Superseded)
         } else {
             Err(Refusal::Contradicted)

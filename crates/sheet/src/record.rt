@@ -1,13 +1,13 @@
-// What a book keeps of a booked line.
+//! What a book keeps of a booked line.
 ghost use Rattle.std.specs.Prelude.{◌≡◌, Some, option_map};
-ghost use Rattle.booking.specs.Booked.{line_numbers};
-ghost use Rattle.sheet.specs.Lines.{in_range};
+ghost use Rattle.booking.specs.Booking.{line_numbers};
+ghost use Rattle.sheet.specs.LineSums.{line_in_range};
 ghost use Rattle.sheet.specs.Places.{record_numbers};
 
-use booking::{Line, Row};
+use booking::{BookedLine, Row};
 
 // The most grams that a line has.
-const MOST_GRAMS: u64 = 100_000_000_000_000;
+const MAX_GRAMS: u64 = 100_000_000_000_000;
 
 // What a line says. It keeps no range, so that places are plain records.
 #[derive(Clone, Copy, Debug, PartialEq, Eq)]
@@ -19,10 +19,10 @@ pub(crate) struct Record {
     pub grams: u64,
 }
 
-impl From<Line> for Record {
+impl From<BookedLine> for Record {
     ghost from_gives = { λ line r. record_numbers r ≡ line_numbers line };
 
-    fn from(line: Line) -> Record {
+    fn from(line: BookedLine) -> Record {
         Record {
             row: line.row,
             span: line.span,
@@ -35,13 +35,13 @@ impl From<Line> for Record {
 
 impl Record {
     // The line, if it is in range. What was let in always is, but a record does not say so.
-    pub(crate) fn line(self) -> Option<Line>
-        ensures { option_map line_numbers result ≡ in_range (Some (record_numbers self)) }
+    pub(crate) fn line(self) -> Option<BookedLine>
+        ensures { option_map line_numbers result ≡ line_in_range (Some (record_numbers self)) }
     {
-        if self.grams > MOST_GRAMS {
+        if self.grams > MAX_GRAMS {
             return None;
         }
-        Some(Line {
+        Some(BookedLine {
             row: self.row,
             span: self.span,
             code: self.code,

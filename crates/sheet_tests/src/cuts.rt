@@ -1,4 +1,4 @@
-// Pages by each cut, of 400 grams in each of the rows 1, 3 and 22: the running sum is 400, 800 and 1,200.
+//! Pages by each cut, of 400 grams in each of the rows 1, 3 and 22: the running sum is 400, 800 and 1,200.
 use crate::notes::{entry, house, list};
 use booking::Row;
 use grades::Grade;

@@ -1,4 +1,4 @@
-// Tests of sheets, against answers and figures that were worked out by hand.
+//! Tests of sheets, against answers and figures that were worked out by hand.
 #![tactic(auto)]
 
 #[cfg(test)]

@@ -1,4 +1,4 @@
-// Notes and what they are judged by: a house of 1,000 square metres over 50 years, and one factor of 0.4 grams a thousandth of a kilogram, under two codes.
+//! Notes and what they are judged by: a house of 1,000 square metres over 50 years, and one factor of 0.4 grams a thousandth of a kilogram, under two codes.
 use domain::{Building, BuildingNumbers, FactorNumbers, FactorRow};
 use factors::ProjectList;
 use refusals::Refusal;

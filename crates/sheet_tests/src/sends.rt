@@ -1,4 +1,4 @@
-// What is answered to sends, one after the other.
+//! What is answered to sends, one after the other.
 use crate::notes::{entry, house, list, withdrawal};
 use pages::{ByStage, Figure};
 use refusals::Refusal;

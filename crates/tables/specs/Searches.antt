@@ -1,4 +1,4 @@
--- What a search finds. Assumes nothing.
+-- What a search finds.
 use Rattle.std.specs.Prelude.{ℕ, ◌<◌, ◌≤◌, Option, Some, None}
 
 -- P holds of a number below an end, and of none there that is larger
@@ -8,6 +8,6 @@ pub record IsLargest (P : ℕ → Type 0) (end most : ℕ) : Type 0 where
   pub no_larger : (n : ℕ) → n < end → P n → n ≤ most
 
 -- the largest number below an end of which P holds, if it holds of any there
-unfoldable pub Largest : (ℕ → Type 0) → ℕ → Option ℕ → Type 0
-Largest P end None = (n : ℕ) → n < end → P n → ⊥
-Largest P end (Some most) = IsLargest P end most
+unfoldable pub FindsLargest : (ℕ → Type 0) → ℕ → Option ℕ → Type 0
+FindsLargest P end None = (n : ℕ) → n < end → P n → ⊥
+FindsLargest P end (Some most) = IsLargest P end most

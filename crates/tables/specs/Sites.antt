@@ -1,4 +1,4 @@
--- The buildings that are asked about. Assumes nothing.
+-- The buildings that are asked about.
 use Rattle.std.specs.Prelude.{ℕ}
 use Rattle.domain.specs.declared.building.BuildingNumbers.{BuildingNumbers}
 

@@ -1,4 +1,4 @@
-// The built-in factors, beside the accounting draft's table of refrigerants and the zero-carbon draft's figure for electricity.
+//! The built-in factors, beside the accounting draft's table of refrigerants and the zero-carbon draft's figure for electricity.
 use domain::FactorUnit;
 use factors::{BuiltIn, FactorSource};
 use std::{fmt, io};

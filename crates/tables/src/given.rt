@@ -1,9 +1,9 @@
-// Whether a building is given a grade, by what the energy of its use weighs.
+//! Whether a building is given a grade, by what the energy of its use weighs.
 ghost use Rattle.std.specs.Prelude.{◌≡◌, ◌+◌, ◌^◌, ◌<◌, ◌↔◌, IsTrue, pos};
 ghost use Rattle.domain.specs.Buildings.{numbers_of};
 ghost use Rattle.totals.specs.Sums.{sums_of};
-ghost use Rattle.grades.specs.Grades.{grade_number, weight};
-ghost use Rattle.tables.specs.Gradings.{IsGiven, JustGiven};
+ghost use Rattle.grades.specs.Grades.{grade_number, energy_emissions};
+ghost use Rattle.tables.specs.Gradings.{IsGiven, IsJustGiven};
 
 use booking::Row;
 use domain::Building;
@@ -21,15 +21,15 @@ pub(crate) fn is_given(wanted: Grade, building: &Building, grams: u32) -> bool
 // Whether it is given this grade or a higher one, and would not be with a gram more.
 pub(crate) fn is_just_given(wanted: Grade, building: &Building, grams: u32) -> bool
     requires { grams + 1 < 2 ^ 32 }
-    ensures { IsTrue result ↔ JustGiven (grade_number wanted) (numbers_of building.now) grams }
+    ensures { IsTrue result ↔ IsJustGiven (grade_number wanted) (numbers_of building.now) grams }
 {
     is_given(wanted, building, grams) && !is_given(wanted, building, grams + 1)
 }
 
 // A sheet with nothing but so many grams of energy that is bought for use.
-#[tactic(auto, unfolding(totals::specs::Sums::sum_in, totals::specs::Sums::numbered))]
+#[tactic(auto, unfolding(totals::specs::Sums::sum_in, totals::specs::Sums::numbered_rows))]
 fn totals_of(bought: u32) -> Totals
-    ensures { weight (sums_of result) ≡ pos bought }
+    ensures { energy_emissions (sums_of result) ≡ pos bought }
 {
     let mut grams = [0; ROWS];
     grams[Row::EquipmentEnergyBought.index()] = i64::from(bought);

@@ -1,4 +1,4 @@
-// The limits of a grade, beside the zero-carbon draft's tables of them.
+//! The limits of a grade, beside the zero-carbon draft's tables of them.
 use crate::given::is_given;
 use crate::names::{OTHERS, REGIONS};
 use crate::search::{LIMIT_GRAMS, largest_limit};

@@ -1,4 +1,4 @@
-// What the rows and columns of the tables are called.
+//! What the rows and columns of the tables are called.
 use domain::{BuildingType, Region};
 use grades::Grade;
 

@@ -1,4 +1,4 @@
-// The ratios of each grade, beside the zero-carbon draft's rows of them.
+//! The ratios of each grade, beside the zero-carbon draft's rows of them.
 use crate::names::{GRADES, REGIONS};
 use crate::search::{REFERENCE, largest_share};
 use crate::site::square_metre;

@@ -1,8 +1,8 @@
-// What a grade demands, which no call tells: it is found by the weights at which the grade is still given.
+//! What a grade demands, which no call tells: it is found by the weights at which the grade is still given.
 ghost use Rattle.domain.specs.Buildings.{numbers_of};
 ghost use Rattle.grades.specs.Grades.{grade_number};
-ghost use Rattle.tables.specs.Gradings.{GivenWithin, GivenBelow};
-ghost use Rattle.tables.specs.Searches.{Largest};
+ghost use Rattle.tables.specs.Gradings.{IsGivenWithin, IsGivenBelow};
+ghost use Rattle.tables.specs.Searches.{FindsLargest};
 
 use crate::given::{is_given, is_just_given};
 use domain::Building;
@@ -27,9 +27,9 @@ pub(crate) const REFERENCE: u16 = 10_000;
 const SHARE_GRAMS: u32 = 10_000;
 
 // The largest limit within which the grade is given to a square metre in a year; none where it is given within no limit.
-#[tactic(auto, unfolding(crate::specs::Searches::Largest))]
+#[tactic(auto, unfolding(crate::specs::Searches::FindsLargest))]
 pub(crate) fn largest_limit(grade: Grade, building: &Building) -> Option<u16>
-    ensures { Largest (GivenWithin (grade_number grade) (numbers_of building.now)) 2001 result }
+    ensures { FindsLargest (IsGivenWithin (grade_number grade) (numbers_of building.now)) 2001 result }
 {
     let mut largest = None;
     for limit in 0..LIMITS_END {
@@ -41,9 +41,9 @@ pub(crate) fn largest_limit(grade: Grade, building: &Building) -> Option<u16>
 }
 
 // By how many per cent of the reference the weight has to lie below it, to the gram; none where no whole number is so many.
-#[tactic(auto, unfolding(crate::specs::Searches::Largest))]
+#[tactic(auto, unfolding(crate::specs::Searches::FindsLargest))]
 pub(crate) fn largest_share(grade: Grade, building: &Building) -> Option<u16>
-    ensures { Largest (GivenBelow (grade_number grade) (numbers_of building.now)) 101 result }
+    ensures { FindsLargest (IsGivenBelow (grade_number grade) (numbers_of building.now)) 101 result }
 {
     let mut largest = None;
     for share in 0..SHARES_END {

@@ -1,7 +1,7 @@
-// The buildings that are asked about.
+//! The buildings that are asked about.
 ghost use Rattle.std.specs.Prelude.{◌≡◌};
 ghost use Rattle.domain.specs.Numbers.{region_number, type_number};
-ghost use Rattle.domain.specs.Ranges.{SunRange, ReferenceRange};
+ghost use Rattle.domain.specs.Ranges.{IsSunClass, IsReference};
 ghost use Rattle.domain.specs.Buildings.{numbers_of};
 ghost use Rattle.tables.specs.Sites.{square_metre};
 
@@ -22,8 +22,8 @@ pub(crate) fn square_metre(
     building_type: BuildingType,
     reference: u16,
 ) -> Building
-    requires sun { SunRange sun }
-    requires reference { ReferenceRange reference }
+    requires sun { IsSunClass sun }
+    requires reference { IsReference reference }
     ensures { numbers_of result ≡ square_metre (region_number region) sun (type_number building_type) reference }
 {
     Building {

@@ -1,10 +1,10 @@
--- Sums over the places of an array, one of which is added to. Assumes nothing.
+-- Sums over the places of an array, one of which is added to.
 use Rattle.std.proofs.Common.{◌≡◌, ℕ, zero, suc, ◌+◌, ◌<◌, ◌≤◌, Bool, true, false, if◌then◌else◌, List, [], ◌∷◌, length, get_or, set, drop, replicate, sum_by, sum, ℤ, pos, ◌+ℤ◌, unsigned_abs, FitsSigned, w64, to_z, of_z, refl, sym, ap, ◌∙◌, arith}
 use Rattle.std.proofs.lemmas.Int.{ints, to_z-of_z, fits_signed_from_abs}
 use Rattle.std.proofs.lemmas.List.{drop_more, drop_all}
 use Rattle.std.proofs.lemmas.List.Sums.{sum_by-set, get_or-le-sum_by}
-use Rattle.totals.specs.Sizes.{most_size}
-use Rattle.totals.specs.Sums.{sum_in, grams_in, count_in, numbered, Sums}
+use Rattle.totals.specs.Sizes.{max_size}
+use Rattle.totals.specs.Sums.{sum_in, grams_in, count_in, numbered_rows, Sums}
 
 -- what grams and counts come to, each with the number of its row
 abbrev pub sums_in : List (ℕ × ℤ) → List (ℕ × ℕ) → Sums
@@ -53,36 +53,36 @@ module _ {X : Type 0} {none : X} {plus : X → X → X} (laws : Adds none plus) 
   first choice row x vs = if_chosen (choice row) x (sum_in none plus choice vs)
 
   -- what is added at a place is added to the sum
-  pub added : (choice : ℕ → Bool) (k : ℕ) (xs : List X) (at : ℕ) (d g : X) → at < length xs → sum_in none plus choice (numbered k (set xs at (plus (get_or xs at d) g))) ≡ plus (sum_in none plus choice (numbered k xs)) (part none choice (k + at) g)
-  unfolding numbered
+  pub added : (choice : ℕ → Bool) (k : ℕ) (xs : List X) (at : ℕ) (d g : X) → at < length xs → sum_in none plus choice (numbered_rows k (set xs at (plus (get_or xs at d) g))) ≡ plus (sum_in none plus choice (numbered_rows k xs)) (part none choice (k + at) g)
+  unfolding numbered_rows
   added choice k [] at d g h = absurd (omega arith)
   added choice k (x ∷ xs) zero d g h =
-      let rest = numbered (k + 1) xs in
+      let rest = numbered_rows (k + 1) xs in
       let e : k + 0 ≡ k = omega arith in
       rw e (cc (first choice k (plus x g) rest, both_chosen (choice k) x g, turned (part none choice k x) (part none choice k g) (sum_in none plus choice rest), first choice k x rest))
   added choice k (x ∷ xs) (suc at) d g h =
-      let rest = numbered (k + 1) xs in
+      let rest = numbered_rows (k + 1) xs in
       let e : k + suc at ≡ k + 1 + at = omega arith in
-      rw e (cc (first choice k x (numbered (k + 1) (set xs at (plus (get_or xs at d) g))), added choice (k + 1) xs at d g (omega arith), laws.apart (part none choice k x) (sum_in none plus choice rest) (part none choice (k + 1 + at) g), first choice k x rest))
+      rw e (cc (first choice k x (numbered_rows (k + 1) (set xs at (plus (get_or xs at d) g))), added choice (k + 1) xs at d g (omega arith), laws.apart (part none choice k x) (sum_in none plus choice rest) (part none choice (k + 1 + at) g), first choice k x rest))
 
   -- the values from place i on are that at i and those after it
-  pub one_more : (choice : ℕ → Bool) (k : ℕ) (xs : List X) (i : ℕ) (d : X) → i < length xs → sum_in none plus choice (numbered k (drop i xs)) ≡ plus (part none choice k (get_or xs i d)) (sum_in none plus choice (numbered (k + 1) (drop (i + 1) xs)))
-  unfolding numbered
-  one_more choice k xs i d h = ap (λ ys. sum_in none plus choice (numbered k ys)) (drop_more xs i d h) ∙ first choice k (get_or xs i d) (numbered (k + 1) (drop (i + 1) xs))
+  pub one_more : (choice : ℕ → Bool) (k : ℕ) (xs : List X) (i : ℕ) (d : X) → i < length xs → sum_in none plus choice (numbered_rows k (drop i xs)) ≡ plus (part none choice k (get_or xs i d)) (sum_in none plus choice (numbered_rows (k + 1) (drop (i + 1) xs)))
+  unfolding numbered_rows
+  one_more choice k xs i d h = ap (λ ys. sum_in none plus choice (numbered_rows k ys)) (drop_more xs i d h) ∙ first choice k (get_or xs i d) (numbered_rows (k + 1) (drop (i + 1) xs))
 
   -- nothing yet
-  pub nothing : (choice : ℕ → Bool) (k n : ℕ) → sum_in none plus choice (numbered k (replicate n none)) ≡ none
-  unfolding sum_in numbered
+  pub nothing : (choice : ℕ → Bool) (k n : ℕ) → sum_in none plus choice (numbered_rows k (replicate n none)) ≡ none
+  unfolding sum_in numbered_rows
   nothing choice k zero = refl
   nothing choice k (suc n) =
       let after = nothing choice (k + 1) n in
-      let s = sum_in none plus choice (numbered (k + 1) (replicate n none)) in
+      let s = sum_in none plus choice (numbered_rows (k + 1) (replicate n none)) in
       elim (choice k) as (λ b. (if b then plus none s else s) ≡ none) [ true ↦ laws.with_none s ∙ after | false ↦ after ]
 
   -- nothing more
-  pub no_more : (choice : ℕ → Bool) (k : ℕ) (xs : List X) (i : ℕ) → length xs ≤ i → sum_in none plus choice (numbered k (drop i xs)) ≡ none
-  unfolding sum_in numbered
-  no_more choice k xs i h = ap (λ ys. sum_in none plus choice (numbered k ys)) (drop_all i xs h)
+  pub no_more : (choice : ℕ → Bool) (k : ℕ) (xs : List X) (i : ℕ) → length xs ≤ i → sum_in none plus choice (numbered_rows k (drop i xs)) ≡ none
+  unfolding sum_in numbered_rows
+  no_more choice k xs i h = ap (λ ys. sum_in none plus choice (numbered_rows k ys)) (drop_all i xs h)
 
 -- the size of a sum is at most that of its terms together
 pub size_of_sum : (a b : ℤ) → unsigned_abs (a +ℤ b) ≤ unsigned_abs a + unsigned_abs b
@@ -94,15 +94,15 @@ abbrev pub held : ℤ → ℤ
 held z = to_z w64 (of_z w64 z)
 
 -- two numbers that are light together: their sum fits, and is what it is read back as
-module _ (a b : ℤ) (light : unsigned_abs a + unsigned_abs b ≤ most_size) where
+module _ (a b : ℤ) (in_bounds : unsigned_abs a + unsigned_abs b ≤ max_size) where
   held_both : held a +ℤ held b ≡ a +ℤ b
   held_both = rw (to_z-of_z w64 a (fits_signed_from_abs w64 a (omega arith)), to_z-of_z w64 b (fits_signed_from_abs w64 b (omega arith))) refl
 
-  pub light_fits : FitsSigned w64 (held a +ℤ held b)
-  light_fits = rw held_both (fits_signed_from_abs w64 (a +ℤ b) (omega (arith, size_of_sum a b)))
+  pub in_bounds_fits : FitsSigned w64 (held a +ℤ held b)
+  in_bounds_fits = rw held_both (fits_signed_from_abs w64 (a +ℤ b) (omega (arith, size_of_sum a b)))
 
-  pub light_kept : held (held a +ℤ held b) ≡ a +ℤ b
-  light_kept = to_z-of_z w64 (held a +ℤ held b) light_fits ∙ held_both
+  pub in_bounds_kept : held (held a +ℤ held b) ≡ a +ℤ b
+  in_bounds_kept = to_z-of_z w64 (held a +ℤ held b) in_bounds_fits ∙ held_both
 
 -- a value more: sizes grow by its size at most
 pub sizes_added : (xs : List ℤ) (at : ℕ) (d g : ℤ) → at < length xs → sum_by unsigned_abs (set xs at (get_or xs at d +ℤ g)) ≤ sum_by unsigned_abs xs + unsigned_abs g

@@ -1,11 +1,11 @@
--- What chosen rows come to: of two choices together, of one row alone, and at most. Assumes nothing.
+-- What chosen rows come to: of two choices together, of one row alone, and at most.
 use Rattle.std.proofs.Common.{◌≡◌, ℕ, zero, suc, ◌+◌, ◌<◌, ◌≤◌, Bool, true, false, if◌then◌else◌, List, [], ◌∷◌, length, get_or, sum_by, pos, ◌+ℤ◌, unsigned_abs, nat_eq, refl, sym, ap, ◌∙◌, arith}
 use Rattle.std.specs.List.{All}
 use Rattle.std.proofs.lemmas.Bool.Decides.{nat_tests}
 use Rattle.std.proofs.lemmas.List.Elements.{All-head, All-tail}
 use Rattle.std.proofs.lemmas.List.Sums.{sum_by-cons}
-use Rattle.totals.specs.Sizes.{most_count, WithinTotals}
-use Rattle.totals.specs.Sums.{sum_in, numbered, sums_of}
+use Rattle.totals.specs.Sizes.{max_count, IsWithinTotals}
+use Rattle.totals.specs.Sums.{sum_in, numbered_rows, sums_of}
 use Rattle.totals.specs.declared.totals.Totals.{Totals}
 use Rattle.totals.proofs.Adding.{Adds, part, crossed, first, size_of_sum}
 
@@ -32,14 +32,14 @@ module _ {X : Type 0} {none : X} {plus : X → X → X} (laws : Adds none plus) 
       cc (first laws a v.0 v.1 vs, first laws b v.0 v.1 vs, first laws c v.0 v.1 vs)
 
   -- a row before the first has nothing
-  none_after : (row k : ℕ) (xs : List X) → row < k → sum_in none plus (λ r. nat_eq r row) (numbered k xs) ≡ none
-  unfolding sum_in numbered
+  none_after : (row k : ℕ) (xs : List X) → row < k → sum_in none plus (λ r. nat_eq r row) (numbered_rows k xs) ≡ none
+  unfolding sum_in numbered_rows
   none_after row k [] l = refl
   none_after row k (x ∷ xs) l = let past : nat_eq k row ≡ false = grind (arith, nat_tests) in rw past (none_after row (k + 1) xs (omega arith))
 
   -- one row alone
-  pub one_alone : (row k : ℕ) (xs : List X) (i : ℕ) (d : X) → k + i ≡ row → i < length xs → sum_in none plus (λ r. nat_eq r row) (numbered k xs) ≡ get_or xs i d
-  unfolding sum_in numbered
+  pub one_alone : (row k : ℕ) (xs : List X) (i : ℕ) (d : X) → k + i ≡ row → i < length xs → sum_in none plus (λ r. nat_eq r row) (numbered_rows k xs) ≡ get_or xs i d
+  unfolding sum_in numbered_rows
   one_alone row k [] i d e l = absurd (omega arith)
   one_alone row k (x ∷ xs) zero d e l =
       let here : nat_eq k row ≡ true = grind (arith, nat_tests) in
@@ -54,23 +54,23 @@ record Sized {X : Type 0} (none : X) (plus : X → X → X) (size : X → ℕ) :
   of_sum : (a b : X) → size (plus a b) ≤ size a + size b
 
 -- what any choice of rows comes to is no larger than all sizes together
-most : {X : Type 0} {none : X} {plus : X → X → X} {size : X → ℕ} → Sized none plus size → (choice : ℕ → Bool) (k : ℕ) (xs : List X) → size (sum_in none plus choice (numbered k xs)) ≤ sum_by size xs
-unfolding sum_in numbered
+most : {X : Type 0} {none : X} {plus : X → X → X} {size : X → ℕ} → Sized none plus size → (choice : ℕ → Bool) (k : ℕ) (xs : List X) → size (sum_in none plus choice (numbered_rows k xs)) ≤ sum_by size xs
+unfolding sum_in numbered_rows
 most sized choice k [] = omega (arith, sized.of_none)
 most {none} {plus} {size} sized choice k (x ∷ xs) =
-    let s = sum_in none plus choice (numbered (k + 1) xs) in
+    let s = sum_in none plus choice (numbered_rows (k + 1) xs) in
     let after = most sized choice (k + 1) xs in
     let both = sized.of_sum x s in
     let all = sum_by-cons size x xs in
     elim (choice k) as (λ b. size (if b then plus x s else s) ≤ sum_by size (x ∷ xs)) [ true ↦ omega arith | false ↦ omega arith ]
 
 -- so no choice of rows is beyond the bounds of totals
-pub grams_within : (t : Totals) (choice : ℕ → Bool) → WithinTotals ((sums_of t).grams choice)
+pub grams_within : (t : Totals) (choice : ℕ → Bool) → IsWithinTotals ((sums_of t).grams choice)
 grams_within t choice =
     let sized : Sized (pos 0) ◌+ℤ◌ unsigned_abs = record { of_none = refl; of_sum = size_of_sum } in
     omega (arith, most sized choice 1 t.grams, t.grams_within)
 
-pub counts_within : (t : Totals) (choice : ℕ → Bool) → (sums_of t).counts choice ≤ most_count
+pub counts_within : (t : Totals) (choice : ℕ → Bool) → (sums_of t).counts choice ≤ max_count
 counts_within t choice =
     let sized : Sized 0 ◌+◌ (λ n. n) = record { of_none = refl; of_sum = λ a b. omega arith } in
     omega (arith, most sized choice 1 t.counts, t.counts_within)

@@ -1,4 +1,4 @@
--- What rows come to together. Assumes nothing.
+-- What rows come to together.
 use Rattle.std.specs.Prelude.{ℕ, ◌+◌, Bool, if◌then◌else◌, List, [], ◌∷◌, ℤ, pos, ◌+ℤ◌}
 use Rattle.totals.specs.declared.totals.Totals.{Totals}
 
@@ -15,9 +15,9 @@ abbrev pub count_in : (ℕ → Bool) → List (ℕ × ℕ) → ℕ
 count_in choice = sum_in 0 ◌+◌ choice
 
 -- values in the order of their rows, the first in row k
-unfoldable pub numbered : {X : Type 0} → ℕ → List X → List (ℕ × X)
-numbered k [] = []
-numbered k (x ∷ xs) = (k, x) ∷ numbered (k + 1) xs
+unfoldable pub numbered_rows : {X : Type 0} → ℕ → List X → List (ℕ × X)
+numbered_rows k [] = []
+numbered_rows k (x ∷ xs) = (k, x) ∷ numbered_rows (k + 1) xs
 
 -- what any choice of rows comes to: its grams, and of how many entries they are
 pub record Sums : Type 0 where
@@ -25,4 +25,4 @@ pub record Sums : Type 0 where
   pub counts : (ℕ → Bool) → ℕ
 
 abbrev pub sums_of : Totals → Sums
-sums_of t = record { grams = λ choice. grams_in choice (numbered 1 t.grams); counts = λ choice. count_in choice (numbered 1 t.counts) }
+sums_of t = record { grams = λ choice. grams_in choice (numbered_rows 1 t.grams); counts = λ choice. count_in choice (numbered_rows 1 t.counts) }

@@ -1,4 +1,4 @@
-// What the entries of a sheet come to, row by row.
+//! What the entries of a sheet come to, row by row.
 #![tactic(auto)]
 
 mod totals;

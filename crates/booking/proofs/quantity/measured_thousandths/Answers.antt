@@ -11,4 +11,4 @@ returns c =
     let x = c.args.x in
     let exact = c.exact_thousandths in
     let same = nearest_same (over (pos exact.result.numerator) (2 ^ exact.result.shift)) (measured_thousandths x) (pow_pos exact.result.shift) (divides x) exact.ensures in
-    (c.if-not-is_in_range.ensures.0 refl, ap nat_abs (c.nearest.ensures ∙ same))
+    (c.if-not-is_in_range.ensures.0 refl, ap nat_abs (c.round.ensures ∙ same))

@@ -1,5 +1,5 @@
 use Rattle.std.proofs.Common.{◌≡◌, take, vec_items}
-use Rattle.listing.proofs.Rows.{fit}
+use Rattle.listing.proofs.FitRows.{fit}
 use Rattle.listing.proofs.basis.fit_rows.Given as goal
 
 abbrev pub invariant-loop-answer : goal.invariant-loop-answer

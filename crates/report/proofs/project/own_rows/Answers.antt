@@ -2,7 +2,7 @@ use Rattle.std.proofs.Common.{◌∙◌, subst, vec_items, Ok, Err}
 use Rattle.std.proofs.lemmas.List.{drop_more, drop_all}
 use Rattle.std.proofs.lemmas.Result.{err_from_is_err_and}
 use Rattle.report.specs.Projects.{ReadsRow}
-use Rattle.report.proofs.Rows.{Gathered, none_gathered, one_gathered, one_refused, all_gathered}
+use Rattle.report.proofs.OwnRows.{Gathered, none_gathered, one_gathered, one_refused, all_gathered}
 use Rattle.report.proofs.project.own_rows.Goals as goal
 
 pub loop-answer-init : goal.loop-answer-init

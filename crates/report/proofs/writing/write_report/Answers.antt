@@ -4,7 +4,7 @@ use Rattle.std.specs.Io.KnownBytes.{Appends}
 use Rattle.feed.proofs.Enough.{written_for}
 use Rattle.report.proofs.Enough.{enough}
 use Rattle.report.proofs.Only.{is_report}
-use Rattle.report.specs.Reports.{Reports, IsReport}
+use Rattle.report.specs.Reports.{IsReportText, IsReport}
 use Rattle.report.proofs.writing.write_report.Goals as goal
 
 pub returns : goal.returns
@@ -13,6 +13,6 @@ returns g c =
     let held = g.W.Write.contents c.args.writer.now in
     let holds = g.W.Write.contents c.write_all.new.self in
     let text = string_bytes c.in_ok-text.text in
-    let reports = subst (λ bs. Reports bs text) c.as_slice.ensures.value c.in_ok-text.ensures.value in
-    let serves = λ (feed text : List ℕ) (reports : Reports (take 65537 feed) text). is_report (enough feed text reports) in
-    on_ok_weaker c.write_all.result (λ appended. written_for Reports IsReport serves remaining held holds _ text c.in_ok-feed.ensures reports (subst (Appends held holds) (c.as_bytes.ensures.value ∙ c.as_str.ensures.value) appended)) c.write_all.ensures.bytes
+    let reports = subst (λ bs. IsReportText bs text) c.as_slice.ensures.value c.in_ok-text.ensures.value in
+    let serves = λ (feed text : List ℕ) (reports : IsReportText (take 65537 feed) text). is_report (enough feed text reports) in
+    on_ok_weaker c.write_all.result (λ appended. written_for IsReportText IsReport serves remaining held holds _ text c.in_ok-feed.ensures reports (subst (Appends held holds) (c.as_bytes.ensures.value ∙ c.as_str.ensures.value) appended)) c.write_all.ensures.bytes

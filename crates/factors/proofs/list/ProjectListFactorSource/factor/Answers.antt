@@ -1,7 +1,7 @@
 use Rattle.std.proofs.Common.{sym, ap, ◌∙◌}
 use Rattle.std.specs.Option.{option_map}
 use Rattle.domain.specs.Factors.{factor_numbers}
-use Rattle.factors.proofs.Listed.{passed}
+use Rattle.factors.proofs.ListRows.{passed}
 use Rattle.factors.proofs.list.ProjectListFactorSource.factor.Goals as goal
 
 pub loop-row-preserved : goal.loop-row-preserved

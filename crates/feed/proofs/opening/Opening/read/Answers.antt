@@ -1,8 +1,8 @@
 use Rattle.std.proofs.Common.{sym, subst}
-use Rattle.feed.specs.Feeds.{ReaderRun, opened, called}
+use Rattle.feed.specs.Feeds.{ReaderHistory, opened, called}
 use Rattle.feed.proofs.Beginning.{first_passed}
 use Rattle.feed.proofs.Ending.{fewer_left}
-use Rattle.feed.proofs.Rows.{no_rows_yet, row_more, no_row_more}
+use Rattle.feed.proofs.FactorRows.{no_rows_yet, row_more, no_row_more}
 use Rattle.feed.proofs.opening.Opening.read.Goals as goal
 
 pub loop-note-init : goal.loop-note-init
@@ -24,5 +24,5 @@ returns c =
       opens = record { building = reads; rows = rw passed at found.rows };
       read = found.read;
       calls = c.loop-note.invariant.calls;
-      run = subst (ReaderRun c.args.feed.now c.loop-note.invariant.calls) (sym c.in_default.ensures.1) c.loop-note.invariant.run;
+      history = subst (ReaderHistory c.args.feed.now c.loop-note.invariant.calls) (sym c.in_default.ensures.1) c.loop-note.invariant.history;
     }

@@ -1,10 +1,10 @@
 use Rattle.std.proofs.Common.{vec_items}
 use Rattle.feed.proofs.Ending.{bytes_left}
-use Rattle.feed.proofs.Rows.{RowsSofar}
+use Rattle.feed.proofs.FactorRows.{RowsSoFar}
 use Rattle.feed.proofs.opening.Opening.read.Given as goal
 
 abbrev pub invariant-loop-note : goal.invariant-loop-note
-invariant-loop-note l = RowsSofar l.feed l.initial.rest l.rest (vec_items l.rows)
+invariant-loop-note l = RowsSoFar l.feed l.initial.rest l.rest (vec_items l.rows)
 
 abbrev pub decreases-loop-note : goal.decreases-loop-note
 decreases-loop-note l = bytes_left l.rest

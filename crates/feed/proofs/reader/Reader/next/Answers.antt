@@ -1,8 +1,8 @@
 use Rattle.std.proofs.Common.{Some, None, Ok, ◌≡◌, [], refl, ap, ◌∙◌, subst, arith, length-drop, length, rules}
 use Rattle.std.proofs.lemmas.Grind.{common_steps}
 use Rattle.feed.specs.declared.reader.Part.{Part}
-use Rattle.feed.specs.Feeds.{Answered, Hands, left_of}
-use Rattle.feed.specs.Frames.{Framed, first_note}
+use Rattle.feed.specs.Feeds.{AnswersNext, HandsOut, rest_of}
+use Rattle.feed.specs.Frames.{IsFramed, first_note}
 use Rattle.feed.proofs.Framing.{length_first}
 use Rattle.feed.proofs.Running.{lawful_call}
 use Rattle.feed.proofs.reader.Reader.next.Goals as goal
@@ -10,32 +10,32 @@ use Rattle.feed.proofs.reader.Reader.next.Goals as goal
 pub returns-then-is_empty : goal.returns-then-is_empty
 returns-then-is_empty c =
     let self = c.args.self.now in
-    let none : left_of self ≡ [] = grind (arith, common_steps) in
-    let told : Answered self (Ok None) self = (none, record { over = refl; bytes = refl; notes = refl }) in
+    let none : rest_of self ≡ [] = grind (arith, common_steps) in
+    let told : AnswersNext self (Ok None) self = (none, record { over = refl; bytes = refl; notes = refl }) in
     record { value = told; law = lawful_call self (Ok None) self told }
 
 pub returns-in_err-bytes : goal.returns-in_err-bytes
 returns-in_err-bytes c =
     let self = c.args.self.now in
-    let told : Answered self c.from_residual.result self = search rules in
+    let told : AnswersNext self c.from_residual.result self = search rules in
     record { value = told; law = lawful_call self _ self told }
 
 pub invariant_of-self : goal.invariant_of-self
 invariant_of-self c =
     let self = c.args.self.now in
     let framed = c.in_ok-bytes.ensures.0.0 in
-    let long = ap length c.in_ok-bytes.ensures.1 ∙ length_first c.left-left.result.bytes.now framed in
-    let rest = ap length c.left-left.ensures.bytes ∙ length-drop self.start self.feed.now in
+    let long = ap length c.in_ok-bytes.ensures.1 ∙ length_first c.rest-left.result.bytes.now framed in
+    let rest = ap length c.rest-left.ensures.bytes ∙ length-drop self.start self.feed.now in
     record { start_within = omega (arith, self.start_within, framed.whole); handed_within = omega (arith, self.handed_within, framed.least) }
 
 pub returns : goal.returns
 returns c =
-    let left = c.left-left.ensures in
-    let part : Part = record { place = c.left-left.result.place; start = c.left-left.result.start; bytes = c.in_ok-bytes.bytes } in
+    let left = c.rest-left.ensures in
+    let part : Part = record { place = c.rest-left.result.place; start = c.rest-left.result.start; bytes = c.in_ok-bytes.bytes } in
     let step = c.in_ok-bytes.ensures in
-    let told : Hands c.args.self.now part _ =
+    let told : HandsOut c.args.self.now part _ =
     record {
-      framed = subst Framed left.bytes step.0.0;
+      framed = subst IsFramed left.bytes step.0.0;
       note = step.1 ∙ ap first_note left.bytes;
       place = left.place;
       start = left.start;

@@ -1,5 +1,5 @@
 use Rattle.std.proofs.Common.{Ok, Err, sym, subst}
-use Rattle.feed.specs.Rows.{RowsRead}
+use Rattle.feed.specs.FactorRows.{ReadsEachRow}
 use Rattle.feed.proofs.Beginning.{building_once}
 use Rattle.listing.specs.Bases.{building, no_building}
 use Rattle.listing.proofs.basis.BookingBasis.read.Goals as goal
@@ -7,7 +7,7 @@ use Rattle.listing.proofs.basis.BookingBasis.read.Goals as goal
 pub returns-in_ok-fit_rows-in-Ok : goal.returns-in_ok-fit_rows-in-Ok
 returns-in_ok-fit_rows-in-Ok c =
     let opened = c.in-Ok.ensures in
-    building c.in-Ok.opening.building opened.opens (c.in_ok-fit_rows-in-Ok.ensures opened.notes (subst (RowsRead opened.notes) (sym c.as_slice.ensures.value) opened.read))
+    building c.in-Ok.opening.building opened.opens (c.in_ok-fit_rows-in-Ok.ensures opened.notes (subst (ReadsEachRow opened.notes) (sym c.as_slice.ensures.value) opened.read))
 
 pub returns-in-Err-Refused : goal.returns-in-Err-Refused
 returns-in-Err-Refused c =

@@ -11,10 +11,10 @@ returns-in_err-place-clause-value g c =
     rw (exit.1, exit.2) (unfit refused.value refused.named)
 
 pub returns-in_err-place-clause-law : goal.returns-in_err-place-clause-law
-returns-in_err-place-clause-law g c = λ b known before run. lawful b known (send run (returns-in_err-place-clause-value g c))
+returns-in_err-place-clause-law g c = λ b factor_map before history. lawful b factor_map (send history (returns-in_err-place-clause-value g c))
 
 pub returns-clause-value : goal.returns-clause-value
 returns-clause-value g c = fit c.in_ok-place.ensures.value c.put.ensures
 
 pub returns-clause-law : goal.returns-clause-law
-returns-clause-law g c = λ b known before run. lawful b known (send run (returns-clause-value g c))
+returns-clause-law g c = λ b factor_map before history. lawful b factor_map (send history (returns-clause-value g c))

@@ -1,0 +1,113 @@
+-- What an entry comes to: why it is refused, its line, and its exact weight.
+use Rattle.std.specs.Prelude.{◌≡◌, ℕ, IsTrue, [], ◌∷◌, ◌++◌, pos, IfErr, Ok, Err, Result}
+use Rattle.exact.specs.Rounding.{Fraction, over, rounded_quotient}
+use Rattle.refusals.specs.declared.lack_codes.LackCodes.{LackCodes}
+use Rattle.refusals.specs.declared.refusal.Refusal.{Refusal}
+use Rattle.refusals.specs.declared.refusal.Refusal.TheVariants.{UnknownRow, UnfitSpan, UnfitQuantity, UnfitUnit, TooLarge}
+use Rattle.refusals.specs.Refusals.{refusal_number, lack_number, refusal_codes, Conditions, GivesOrRefuses}
+use Rattle.factors.specs.Maps.{FactorAnswer, FactorMap, has, lacks}
+use Rattle.domain.specs.Factors.{factor_numbers}
+use Rattle.domain.specs.declared.entry.Entry.{Entry}
+use Rattle.domain.specs.declared.factor.Factor.{Factor}
+use Rattle.booking.specs.declared.booking.Activity.{Activity}
+use Rattle.booking.specs.declared.line.BookedLine.{BookedLine}
+use Rattle.booking.specs.Quantities.{IsQuantityInRange, booked_thousandths}
+use Rattle.booking.specs.Methods.{SpanFits, multiplier, divisor, unit_fits}
+use Rattle.booking.specs.Rows.{IsRowNumber, row_number, method}
+use Rattle.booking.specs.Emissions.{product, IsProductInRange, exact_divisor}
+
+-- a code has a factor
+abbrev pub HasFactor : FactorAnswer → Type 0
+HasFactor (has factor) = Unit {0}
+HasFactor (lacks code) = ⊥
+
+abbrev pub amount_of : FactorAnswer → ℕ
+amount_of (has factor) = factor.amount
+amount_of (lacks code) = 0
+
+abbrev pub unit_of : FactorAnswer → ℕ
+unit_of (has factor) = factor.unit
+unit_of (lacks code) = 0
+
+-- what a source answers for the code c, and what is told of it
+abbrev pub GivesFactor : FactorAnswer → ℕ → Result Factor LackCodes → Type 0
+GivesFactor answer c (Ok f) = answer ≡ has (factor_numbers f)
+GivesFactor answer c (Err l) = (l.asked ≡ c) × (answer ≡ lacks l.lacking)
+
+-- a refusal for want of the factor of the code c names that code, and the one that is lacking
+abbrev pub NamesLack : ℕ → FactorAnswer → Refusal → Type 0
+NamesLack c answer f = refusal_number f ≡ lack_number → (l : ℕ) × (answer ≡ lacks l) × (refusal_codes f ≡ c ∷ l ∷ [])
+
+-- a line by its numbers
+pub record LineNumbers : Type 0 where
+  pub row : ℕ
+  pub span : ℕ
+  pub code : ℕ
+  pub thousandths : ℕ
+  pub grams : ℕ
+
+abbrev pub line_numbers : BookedLine → LineNumbers
+line_numbers l = record { row = row_number l.row; span = l.span; code = l.code; thousandths = l.thousandths; grams = l.grams }
+
+-- what is asked of what an entry says of itself
+module _ (e : Entry) where
+  abbrev pub row_condition : ℕ × Type 0
+  row_condition = (refusal_number UnknownRow, IsRowNumber e.head.row)
+
+  abbrev pub span_condition : ℕ × Type 0
+  span_condition = (refusal_number UnfitSpan, SpanFits (method e.head.row) e.head.span)
+
+  abbrev pub quantity_condition : ℕ × Type 0
+  quantity_condition = (refusal_number UnfitQuantity, IsQuantityInRange e.quantity)
+
+  abbrev pub own_conditions : Conditions
+  own_conditions = row_condition ∷ span_condition ∷ quantity_condition ∷ []
+
+-- s is what the entry e says of itself, in a building with a life of y years
+pub record IsActivity (y : ℕ) (e : Entry) (s : Activity) : Type 0 where
+  pub row_is : row_number s.row ≡ e.head.row
+  pub method_is : s.method ≡ method e.head.row
+  pub multiplies : s.terms.multiplier ≡ multiplier (method e.head.row) y e.head.span
+  pub divides : s.terms.divisor ≡ divisor (method e.head.row) e.head.span
+  pub counts : s.thousandths ≡ booked_thousandths e.quantity
+
+-- an entry in a building with a life of y years, at the factors of a map
+module _ (y : ℕ) (factor_map : FactorMap) (e : Entry) where
+  abbrev pub factor : FactorAnswer
+  factor = factor_map e.head.code
+
+  -- what is divided to give its grams
+  abbrev pub entry_product : ℕ
+  entry_product = product (booked_thousandths e.quantity) (amount_of factor) (multiplier (method e.head.row) y e.head.span)
+
+  abbrev pub entry_divisor : ℕ
+  entry_divisor = exact_divisor (divisor (method e.head.row) e.head.span)
+
+  -- what is asked in view of its factor
+  abbrev pub factor_condition : ℕ × Type 0
+  factor_condition = (lack_number, HasFactor factor)
+
+  abbrev pub unit_condition : ℕ × Type 0
+  unit_condition = (refusal_number UnfitUnit, IsTrue (unit_fits (method e.head.row) (unit_of factor)))
+
+  abbrev pub product_condition : ℕ × Type 0
+  product_condition = (refusal_number TooLarge, IsProductInRange entry_product)
+
+  abbrev pub factor_conditions : Conditions
+  factor_conditions = factor_condition ∷ unit_condition ∷ product_condition ∷ []
+
+  -- what is asked of its content
+  unfoldable pub booking_conditions : Conditions
+  booking_conditions = own_conditions e ++ factor_conditions
+
+  -- its exact weight in grams, of its booked thousandths
+  abbrev pub exact_grams : Fraction
+  exact_grams = over (pos entry_product) entry_divisor
+
+  -- its line: of its exact weight, the nearest gram
+  abbrev pub booked_line : LineNumbers
+  booked_line = record { row = e.head.row; span = e.head.span; code = e.head.code; thousandths = booked_thousandths e.quantity; grams = rounded_quotient entry_product entry_divisor }
+
+  -- r is what booking it answers
+  abbrev pub Books : Result BookedLine Refusal → Type 0
+  Books r = GivesOrRefuses booking_conditions (λ line. line_numbers line ≡ booked_line) r × IfErr r (NamesLack e.head.code factor)

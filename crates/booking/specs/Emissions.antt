@@ -1,0 +1,23 @@
+-- What thousandths of a unit weigh at tenths of a gram for each unit.
+use Rattle.std.specs.Prelude.{ℕ, ◌*◌, ◌≤◌, Bool, if◌then◌else◌, ℤ, pos, neg_ℤ}
+
+-- what is divided to give grams: q thousandths, at the amount f, m times
+abbrev pub product : ℕ → ℕ → ℕ → ℕ
+product q f m = q * f * m
+
+abbrev pub IsProductInRange : ℕ → Type 0
+IsProductInRange w = w ≤ 1000000000000000000
+
+abbrev pub exact_divisor : ℕ → ℕ
+exact_divisor d = 10000 * d
+
+-- the most grams of a product in range: it is divided by 10,000 at least
+abbrev pub max_grams : ℕ
+max_grams = 100000000000000
+
+abbrev pub IsLineGrams : ℕ → Type 0
+IsLineGrams g = g ≤ max_grams
+
+-- grams as they count
+abbrev pub signed_grams : Bool → ℕ → ℤ
+signed_grams subtracted g = if subtracted then neg_ℤ (pos g) else pos g

@@ -1,0 +1,32 @@
+-- The ways of reckoning: y is the building's life in years, s an entry's span.
+use Rattle.std.specs.Prelude.{ℕ, ◌/◌, Bool, not, ◌==◌}
+use Rattle.domain.specs.Ranges.{IsBetween}
+use Rattle.booking.specs.declared.method.CalculationMethod.{CalculationMethod}
+use Rattle.booking.specs.declared.method.CalculationMethod.TheVariants.{OneOff, DistanceBased, Annual, Replacement, Leakage}
+
+-- up to 10,000 kilometres, 1 to 100 years, or none
+abbrev pub SpanFits : CalculationMethod → ℕ → Type 0
+SpanFits OneOff s = IsBetween 0 s 0
+SpanFits DistanceBased s = IsBetween 0 s 10000
+SpanFits Annual s = IsBetween 0 s 0
+SpanFits Replacement s = IsBetween 1 s 100
+SpanFits Leakage s = IsBetween 1 s 100
+
+-- what an entry is multiplied by: its kilometres, or how often it comes in the building's life; a part that is renewed comes a whole number of times
+abbrev pub multiplier : CalculationMethod → ℕ → ℕ → ℕ
+multiplier OneOff y s = 1
+multiplier DistanceBased y s = s
+multiplier Annual y s = y
+multiplier Replacement y s = y / s
+multiplier Leakage y s = y
+
+-- and what it is divided by
+abbrev pub divisor : CalculationMethod → ℕ → ℕ
+divisor Leakage s = s
+divisor k s = 1
+
+-- tonne-kilometres (5) for what is hauled and for nothing else, kilograms (4) for what is refilled
+abbrev pub unit_fits : CalculationMethod → ℕ → Bool
+unit_fits DistanceBased u = u == 5
+unit_fits Leakage u = u == 4
+unit_fits k u = not (u == 5)

@@ -1,0 +1,75 @@
+//! Booking: what an entry comes to in a building, at the factors of a source.
+ghost use Rattle.std.specs.Prelude.{pos, IfOk};
+ghost use Rattle.exact.specs.Rounding.{IsWithinHalf};
+ghost use Rattle.refusals.specs.Refusals.{GivesOrRefuses};
+ghost use Rattle.booking.specs.Booking.{own_conditions, IsActivity, exact_grams, Books, GivesFactor};
+
+use crate::line::BookedLine;
+use crate::quantity::thousandths;
+use crate::method::{CalculationMethod, Terms};
+use crate::row::Row;
+use crate::emissions::grams;
+use domain::{Building, Entry, Factor};
+use factors::FactorSource;
+use refusals::{LackCodes, Refusal};
+
+/// The line of an entry, or why it is refused. The source is asked once, and only for an entry that passes what comes before.
+pub fn book<S: FactorSource>(
+    building: &Building,
+    source: &S,
+    entry: &Entry,
+) -> Result<BookedLine, Refusal>
+    ensures value { Books building.now.life (S.factor_map source.now) entry.now result }
+    ensures near { IfOk result (λ line. IsWithinHalf (pos line.grams) (exact_grams building.now.life (S.factor_map source.now) entry.now)) }
+{
+    let activity = activity_of(building.life, entry)?;
+    let head = entry.head;
+    let factor = ask(source, head.code)?;
+    if !activity.method.unit_fits(factor.unit) {
+        return Err(Refusal::UnfitUnit);
+    }
+    let grams = grams(activity.thousandths, factor, activity.terms)?;
+    Ok(BookedLine {
+        row: activity.row,
+        span: head.span,
+        code: head.code,
+        thousandths: activity.thousandths,
+        grams,
+    })
+}
+
+// What an entry says of itself, in the terms that it is booked by.
+#[derive(Clone, Copy)]
+struct Activity {
+    row: Row,
+    method: CalculationMethod,
+    terms: Terms,
+    thousandths: u64,
+}
+
+// Judges whatever an entry says of itself, in a building with a life of these years: no factor is asked for.
+fn activity_of(years: u16, entry: &Entry) -> Result<Activity, Refusal>
+    ensures { GivesOrRefuses (own_conditions entry.now) (IsActivity years entry.now) result }
+{
+    let head = entry.head;
+    let row = Row::try_from(head.row)?;
+    let method = row.rule().method;
+    let terms = method.terms(years, head.span)?;
+    let thousandths = thousandths(entry.quantity)?;
+    Ok(Activity {
+        row,
+        method,
+        terms,
+        thousandths,
+    })
+}
+
+// The factor of a code, or the code that was asked for and the one that is lacking.
+fn ask<S: FactorSource>(source: &S, code: u32) -> Result<Factor, LackCodes>
+    ensures { GivesFactor (S.factor_map source.now code) code result }
+{
+    source.factor(code).map_err(|lack| LackCodes {
+        asked: code,
+        lacking: lack.code,
+    })
+}

@@ -1,0 +1,33 @@
+//! What a quantity at a factor weighs.
+ghost use Rattle.std.specs.Prelude.{◌≡◌, ◌<◌, ◌≤◌};
+ghost use Rattle.exact.specs.Rounding.{rounded_quotient};
+ghost use Rattle.booking.specs.Emissions.{product, IsProductInRange, exact_divisor};
+ghost use Rattle.refusals.specs.declared.refusal.Refusal.TheVariants.{TooLarge};
+ghost use Rattle.refusals.specs.Refusals.{GivesOrRefusesBy};
+
+use crate::method::Terms;
+use domain::Factor;
+use exact::Ratio;
+use refusals::Refusal;
+
+const MAX_PRODUCT: u64 = 1_000_000_000_000_000_000;
+
+// Thousandths of a unit at tenths of a gram: so many of them are a gram.
+const PER_GRAM: u32 = 10_000;
+
+// The grams nearest to the exact weight, if the product is not too large. It is divided once, last, so that nothing is rounded on the way.
+pub(crate) fn grams(thousandths: u64, factor: Factor, terms: Terms) -> Result<u64, Refusal>
+    requires thousandths { thousandths ≤ 1000000000 }
+    requires divisor { (0 < terms.divisor) × (terms.divisor ≤ 100) }
+    ensures { GivesOrRefusesBy (IsProductInRange (product thousandths factor.amount terms.multiplier)) TooLarge (λ g. g ≡ rounded_quotient (product thousandths factor.amount terms.multiplier) (exact_divisor terms.divisor)) result }
+{
+    let product = (thousandths * u64::from(factor.amount))
+        .checked_mul(u64::from(terms.multiplier))
+        .filter(|product| *product <= MAX_PRODUCT)
+        .ok_or(Refusal::TooLarge)?;
+    let exact = Ratio {
+        numerator: product as i64,
+        divisor: PER_GRAM * u32::from(terms.divisor),
+    };
+    Ok(exact.round() as u64)
+}

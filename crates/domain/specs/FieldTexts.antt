@@ -1,0 +1,40 @@
+-- Fields in words.
+use Rattle.std.specs.Prelude.{ℕ, List, [], ◌∷◌, ◌++◌, codes, decimal}
+use Rattle.domain.specs.declared.building.BuildingNumbers.{BuildingNumbers}
+use Rattle.domain.specs.declared.entry.EntryHead.{EntryHead}
+use Rattle.domain.specs.declared.factor.FactorRow.{FactorRow}
+
+-- a field's name and its value
+abbrev pub NamedField : Type 0
+NamedField = List ℕ × ℕ
+
+abbrev pub field_text : NamedField → List ℕ
+field_text f = f.0 ++ (codes "=" ++ decimal f.1)
+
+-- a field after a space
+abbrev pub spaced_field : NamedField → List ℕ
+spaced_field f = codes " " ++ field_text f
+
+-- fields by name, with a space between one and the next
+abbrev pub fields_text : List NamedField → List ℕ
+fields_text [] = []
+fields_text (f ∷ []) = field_text f
+fields_text (f ∷ g ∷ more) = field_text f ++ (codes " " ++ fields_text (g ∷ more))
+
+abbrev pub building_fields : BuildingNumbers → List NamedField
+building_fields b =
+    (codes "area", b.area) ∷ (codes "life", b.life) ∷ (codes "region", b.region) ∷ (codes "sun", b.sun)
+    ∷ (codes "type", b.building_type) ∷ (codes "reference", b.reference) ∷ []
+
+abbrev pub row_fields : FactorRow → List NamedField
+row_fields row = (codes "code", row.code) ∷ (codes "amount", row.factor.amount) ∷ (codes "unit", row.factor.unit) ∷ []
+
+abbrev pub head_fields : EntryHead → List NamedField
+head_fields e = (codes "row", e.row) ∷ (codes "span", e.span) ∷ (codes "code", e.code) ∷ []
+
+-- a building and a factor row in words
+abbrev pub building_text : BuildingNumbers → List ℕ
+building_text b = codes "building " ++ fields_text (building_fields b)
+
+abbrev pub factor_row_text : FactorRow → List ℕ
+factor_row_text row = codes "factor " ++ fields_text (row_fields row)

@@ -1,0 +1,91 @@
+//! A note that is sent into a sheet.
+ghost use Rattle.std.specs.Prelude.{◌≡◌, ◌≤◌, length};
+ghost use Rattle.feed.specs.Frames.{IsFramed, first_note};
+ghost use Rattle.feed.specs.Kinds.{IsOfKind, note_length};
+ghost use Rattle.feed.specs.Readings.{Reads};
+ghost use Rattle.feed.specs.SentNotes.{IsSent, SaysSentNote, content_kind, sent_note_of};
+
+use crate::content::{Content, read, checked_length};
+use crate::entry::{SentEntry, SentQuantity, head};
+use crate::frame::FIELDS;
+use crate::kind::Kind;
+use crate::little_endian::number_at;
+use refusals::Refusal;
+
+// Where the fields of every such note lie.
+const NUMBER: usize = FIELDS;
+
+const REVISION: usize = NUMBER + 4;
+
+// What an entry says comes after them.
+pub(crate) const CONTENT: usize = REVISION + 4;
+
+/// What is sent under a number, at a revision of it.
+#[derive(Clone, Copy, Debug, PartialEq, Eq)]
+pub struct SentNote {
+    pub number: u32,
+    pub revision: u32,
+    pub content: SentContent,
+}
+
+#[derive(Clone, Copy, Debug, PartialEq, Eq)]
+pub enum SentContent {
+    Entry(SentEntry),
+    /// Takes back what was sent under the number.
+    Withdrawal,
+}
+
+impl SentNote {
+    /// The first note of the bytes, if it is of a kind that is sent.
+    pub fn read(bytes: &[u8]) -> Result<SentNote, Refusal>
+        ensures value { Reads IsSent SaysSentNote bytes.now result }
+        ensures alone { IsFramed bytes.now → Reads IsSent SaysSentNote (first_note bytes.now) result }
+    {
+        read(bytes)
+    }
+
+    /// The kind of the notes that say such a thing.
+    pub fn kind(self) -> Kind
+        ensures { result ≡ content_kind self.content }
+    {
+        match self.content {
+            SentContent::Entry(entry) => entry.quantity.kind(),
+            SentContent::Withdrawal => Kind::Withdrawal,
+        }
+    }
+
+    fn from_note(kind: Kind, note: &[u8]) -> SentNote
+        requires kind { IsOfKind kind note.now }
+        requires sent { IsSent kind }
+        requires sized { length note.now ≡ note_length kind }
+        ensures { result ≡ sent_note_of note.now }
+    {
+        let content = match SentQuantity::of_note(kind, note) {
+            Some(quantity) => SentContent::Entry(SentEntry {
+                head: head(note),
+                quantity,
+            }),
+            None => SentContent::Withdrawal,
+        };
+        SentNote {
+            number: number_at(note, NUMBER),
+            revision: number_at(note, REVISION),
+            content,
+        }
+    }
+}
+
+impl Content for SentNote {
+    ghost Wanted = { IsSent };
+
+    ghost Says = { SaysSentNote };
+
+    fn of_note(kind: Kind, note: &[u8]) -> Result<SentNote, Refusal> {
+        match kind {
+            Kind::Building | Kind::Factor => Err(Refusal::UnwantedKind),
+            Kind::Counted | Kind::Measured | Kind::Withdrawal => {
+                Ok(SentNote::from_note(kind, checked_length(kind, note)?))
+            }
+        }
+    }
+}

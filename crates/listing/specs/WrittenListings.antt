@@ -1,0 +1,15 @@
+-- What is written for a feed: its listing, or that it is too long.
+use Rattle.std.specs.Prelude.{◌≡◌, ℕ, ◌<◌, ◌≤◌, List, ◌++◌, length, codes}
+use Rattle.refusals.specs.declared.refusal.Refusal.TheVariants.{FeedTooLong}
+use Rattle.refusals.specs.RefusalTexts.{refusal_text}
+use Rattle.listing.specs.Listings.{ListsFeed}
+
+-- text is what is written for a feed: its listing, or, of a feed that is too long, one line with the refusal
+pub record ListsOrRefuses (feed text : List ℕ) : Type 0 where
+  pub listed : length feed ≤ 65536 → ListsFeed feed text
+  pub refused : 65536 < length feed → text ≡ refusal_text FeedTooLong ++ codes "\n"
+
+-- text is what is written for a feed, and no other is
+pub record IsListing (feed text : List ℕ) : Type 0 where
+  pub lists : ListsOrRefuses feed text
+  pub only : (other : List ℕ) → ListsOrRefuses feed other → other ≡ text

@@ -1,0 +1,20 @@
+//! One line of a listing.
+ghost use Rattle.std.specs.Prelude.{◌≡◌, ℕ, List, IfOk, string_bytes};
+ghost use Rattle.listing.specs.ListingLines.{IsPartLine};
+ghost use Rattle.listing.specs.Bases.{basis_of};
+
+use crate::basis::BookingBasis;
+use crate::statement::Statement;
+use feed::Part;
+use std::alloc::{AllocError, Global};
+
+/// The line for a part of a feed: what its first note says and is booked at, or by which number it is refused.
+pub fn part_line(heap: Global, basis: &BookingBasis, part: &Part) -> Result<String, AllocError>
+    ensures value { IfOk result (λ s. IsPartLine (basis_of basis.now) part.now (string_bytes s)) }
+    ensures only { IfOk result (λ s. (other : List ℕ) → IsPartLine (basis_of basis.now) part.now other → other ≡ string_bytes s) }
+{
+    let place = part.place;
+    let start = part.start;
+    let statement = Statement::of(basis, part.bytes);
+    format!(in heap; "{place} at={start} {statement}\n")
+}

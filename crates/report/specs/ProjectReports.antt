@@ -1,0 +1,54 @@
+-- The account of a project: what is written of its sheet.
+use Rattle.std.specs.Prelude.{◌≡◌, ℕ, ◌<◌, List, [], ◌∷◌, ◌++◌, length, map, reverse, Ok, Result}
+use Rattle.refusals.specs.declared.refusal.Refusal.{Refusal}
+use Rattle.factors.specs.Layers.{project_map}
+use Rattle.factors.specs.Maps.{FactorMap}
+use Rattle.domain.specs.declared.building.BuildingNumbers.{BuildingNumbers}
+use Rattle.feed.specs.Frames.{IsFramed, IsOneNote}
+use Rattle.pages.specs.declared.figure.Figure.{Figure}
+use Rattle.pages.specs.Cuts.{by_stage}
+use Rattle.sheet.specs.PageAndGrade.{SendsThenDraws, send_events}
+use Rattle.sheet.specs.Histories.{page_event, grade_event, History}
+use Rattle.sheet.specs.Laws.{IsLawfulPage, IsLawfulGrade}
+use Rattle.sheet.specs.States.{State}
+use Rattle.report.specs.Calls.{history_text}
+use Rattle.report.specs.ReportLines.{page_lines, grade_line}
+use Rattle.report.specs.Projects.{ProjectParts}
+
+-- what is sent of bytes: each of their notes, and then what is left, if any is, that begins with none
+pub data SplitsIntoSends : List ℕ → List (List ℕ) → Type 0 where
+  ended : {bs : List ℕ} → bs ≡ [] → SplitsIntoSends bs []
+  unframed : {bs : List ℕ} → 0 < length bs → (IsFramed bs → ⊥) → SplitsIntoSends bs (bs ∷ [])
+  note : {bs : List ℕ} {more : List (List ℕ)} (n rest : List ℕ) → IsOneNote n → bs ≡ n ++ rest → SplitsIntoSends rest more → SplitsIntoSends bs (n ∷ more)
+
+-- all of the bytes are sent into a sheet that was just opened: it is t then, and this is written of it. The latest answers stand first
+pub record SendsAll (b : BuildingNumbers) (factor_map : FactorMap) (bs : List ℕ) (t : State) (text : List ℕ) : Type 0 where
+  pub sends : List (List ℕ)
+  pub sent : SplitsIntoSends bs sends
+  pub answered : List (List ℕ × Result (Unit {0}) Refusal)
+  pub answers : map (λ a. a.0) answered ≡ reverse sends
+  pub history : History b factor_map (send_events answered) t
+  pub written : text ≡ history_text (send_events answered)
+
+-- the account of a project is what is written of just these calls of its sheet: all is sent, then comes a page by stage, and then the grade
+pub record IsProjectReport (c : ProjectParts) (text : List ℕ) : Type 0 where
+  pub sends : List (List ℕ)
+  pub sent : SplitsIntoSends c.notes sends
+  pub places : List Figure
+  pub after : List Figure
+  pub total : Figure
+  pub grade : ℕ
+  pub calls : SendsThenDraws c.building (project_map c.rows) sends by_stage places (Ok total) after grade
+  pub written : text ≡ history_text (grade_event grade ∷ (page_event by_stage places (Ok total) after ∷ send_events calls.answered))
+
+-- an account ends with a page and a grade of which the law over histories holds; what stands before them, `Accounts` says
+pub record EndsLawfully (c : ProjectParts) (text : List ℕ) : Type 0 where
+  pub sends : List (List ℕ)
+  pub sent : SplitsIntoSends c.notes sends
+  pub before : List ℕ
+  pub figures : List Figure
+  pub total : Figure
+  pub grade : ℕ
+  pub written : text ≡ before ++ (page_lines figures total ++ grade_line grade)
+  pub page : IsLawfulPage c.building.life (project_map c.rows) (reverse sends) by_stage figures total
+  pub award : IsLawfulGrade c.building (project_map c.rows) (reverse sends) grade

@@ -1,0 +1,27 @@
+-- The lines of a report.
+use Rattle.std.specs.Prelude.{ℕ, ◌+◌, List, [], ◌∷◌, ◌++◌, codes, decimal}
+use Rattle.std.specs.Fmt.{signed_decimal}
+use Rattle.refusals.specs.declared.refusal.Refusal.{Refusal}
+use Rattle.refusals.specs.Refusals.{refusal_number}
+use Rattle.pages.specs.declared.figure.Figure.{Figure}
+
+-- what is refused: its place among what is sent, from 1, or 0 where it comes before that, and the number of its refusal
+abbrev pub denied_line : ℕ → Refusal → List ℕ
+denied_line place f = codes "denied " ++ (decimal place ++ (codes " " ++ (decimal (refusal_number f) ++ codes "\n")))
+
+-- what is printed under a heading: its kilograms, and of how many entries they are
+abbrev pub figure_line : List ℕ → Figure → List ℕ
+figure_line heading f = heading ++ (codes " " ++ (signed_decimal f.kilograms ++ (codes " " ++ (decimal f.count ++ codes "\n"))))
+
+-- a line for each heading, from the one with the number k on
+abbrev pub heading_lines : ℕ → List Figure → List ℕ
+heading_lines k [] = []
+heading_lines k (f ∷ fs) = figure_line (decimal k) f ++ heading_lines (k + 1) fs
+
+-- a page: its headings, numbered from 1, and its total
+abbrev pub page_lines : List Figure → Figure → List ℕ
+page_lines figures total = heading_lines 1 figures ++ figure_line (codes "total") total
+
+-- a grade, by its number
+abbrev pub grade_line : ℕ → List ℕ
+grade_line n = codes "grade " ++ (decimal n ++ codes "\n")

@@ -1,0 +1,57 @@
+//! The lines of a report.
+ghost use Rattle.std.specs.Prelude.{◌≡◌, IfOk, codes, decimal, string_bytes};
+ghost use Rattle.grades.specs.Grades.{grade_number};
+ghost use Rattle.report.specs.ReportLines.{denied_line as denied_bytes, figure_line as figure_bytes, page_lines as page_bytes, grade_line as grade_bytes};
+
+use grades::Grade;
+use pages::Figure;
+use refusals::Refusal;
+use std::alloc::{AllocError, Global};
+
+/// The line for what is refused, by its place among what is sent, or 0 where it comes before that.
+pub fn denied_line(heap: Global, place: usize, refusal: Refusal) -> Result<String, AllocError>
+    ensures { IfOk result (λ s. string_bytes s ≡ denied_bytes place refusal) }
+{
+    let number = refusal.number();
+    format!(in heap; "denied {place} {number}\n")
+}
+
+/// The line for a stage, by its number.
+pub fn stage_line(heap: Global, stage: usize, figure: &Figure) -> Result<String, AllocError>
+    ensures { IfOk result (λ s. string_bytes s ≡ figure_bytes (decimal stage) figure.now) }
+{
+    let kilograms = figure.kilograms;
+    let count = figure.count;
+    format!(in heap; "{stage} {kilograms} {count}\n")
+}
+
+/// The line for the total.
+pub fn total_line(heap: Global, total: &Figure) -> Result<String, AllocError>
+    ensures { IfOk result (λ s. string_bytes s ≡ figure_bytes (codes "total") total.now) }
+{
+    let kilograms = total.kilograms;
+    let count = total.count;
+    format!(in heap; "total {kilograms} {count}\n")
+}
+
+/// A line for each stage, and one for the total.
+pub fn page_lines(heap: Global, stages: &[Figure], total: &Figure) -> Result<String, AllocError>
+    ensures { IfOk result (λ s. string_bytes s ≡ page_bytes stages.now total.now) }
+{
+    let mut text = String::new(heap);
+    for (k, figure) in stages.iter().enumerate() {
+        let line = stage_line(heap, k + 1, figure)?;
+        text.push_str(line.as_str())?;
+    }
+    let line = total_line(heap, total)?;
+    text.push_str(line.as_str())?;
+    Ok(text)
+}
+
+/// The line for a grade.
+pub fn grade_line(heap: Global, grade: Grade) -> Result<String, AllocError>
+    ensures { IfOk result (λ s. string_bytes s ≡ grade_bytes (grade_number grade)) }
+{
+    let number = u16::from(grade);
+    format!(in heap; "grade {number}\n")
+}

@@ -1,0 +1,20 @@
+-- An account of a whole sheet, as a run of its calls.
+use Rattle.std.specs.Prelude.{◌≡◌, ℕ, List, ◌∷◌, map, reverse, Result}
+use Rattle.refusals.specs.declared.refusal.Refusal.{Refusal}
+use Rattle.factors.specs.Maps.{FactorMap}
+use Rattle.domain.specs.declared.building.BuildingNumbers.{BuildingNumbers}
+use Rattle.pages.specs.declared.figure.Figure.{Figure}
+use Rattle.pages.specs.Cuts.{Assignment}
+use Rattle.sheet.specs.Histories.{Event, send_event, page_event, grade_event, History}
+use Rattle.sheet.specs.States.{State}
+
+-- sends with their answers, as calls
+abbrev pub send_events : List (List ℕ × Result (Unit {0}) Refusal) → List Event
+send_events answered = map (λ a. send_event a.0 a.1) answered
+
+-- calls of one sheet over a building and a source's map, from its opening on: these bytes were sent, in this order and each with some answer, then came a page by the cut, which left places that held `places` with `after`, and then a grade. The latest stand first
+pub record SendsThenDraws (b : BuildingNumbers) (factor_map : FactorMap) (bytes : List (List ℕ)) (cut : Assignment) (places : List Figure) (answer : Result Figure Refusal) (after : List Figure) (grade : ℕ) : Type 0 where
+  pub answered : List (List ℕ × Result (Unit {0}) Refusal)
+  pub last : State
+  pub sent : map (λ a. a.0) answered ≡ reverse bytes
+  pub history : History b factor_map (grade_event grade ∷ (page_event cut places answer after ∷ send_events answered)) last

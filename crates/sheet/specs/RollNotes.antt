@@ -1,0 +1,40 @@
+-- What is sent into a sheet, and what it comes to there.
+use Rattle.std.specs.Prelude.{ℕ, List, [], Some, None, Option, option_map}
+use Rattle.refusals.specs.declared.refusal.Refusal.{Refusal}
+use Rattle.refusals.specs.Refusals.{Conditions}
+use Rattle.factors.specs.Maps.{FactorMap}
+use Rattle.feed.specs.declared.sent_note.SentNote.{SentNote}
+use Rattle.feed.specs.SentNotes.{entry_of_content, sent_note_of}
+use Rattle.domain.specs.declared.entry.Entry.{Entry}
+use Rattle.booking.specs.Booking.{NamesLack, booking_conditions, booked_line}
+use Rattle.sheet.specs.Places.{PlaceNumbers}
+
+-- a note by its number and its revision, with its entry if it is one
+pub record RollNote : Type 0 where
+  pub number : ℕ
+  pub revision : ℕ
+  pub entry : Option Entry
+
+-- what a note that was read says to a sheet
+abbrev pub roll_note_of : SentNote → RollNote
+roll_note_of s = record { number = s.number; revision = s.revision; entry = entry_of_content s.content }
+
+-- what the bytes of a note say to it
+abbrev pub roll_note : List ℕ → RollNote
+roll_note note = roll_note_of (sent_note_of note)
+
+-- in a building with a life of y years, at the factors of a map
+module _ (y : ℕ) (factor_map : FactorMap) where
+  -- what is asked of what a note says: nothing of a withdrawal
+  abbrev pub entry_conditions : Option Entry → Conditions
+  entry_conditions None = []
+  entry_conditions (Some e) = booking_conditions y factor_map e
+
+  -- a refusal for want of a factor names the code that was asked for, and the one that is lacking
+  abbrev pub NamesLackOf : Option Entry → Refusal → Type 0
+  NamesLackOf None f = Unit {0}
+  NamesLackOf (Some e) f = NamesLack e.head.code (factor_map e.head.code) f
+
+  -- what a note puts into its place
+  abbrev pub note_place : RollNote → PlaceNumbers
+  note_place n = record { number = n.number; revision = n.revision; line = option_map (booked_line y factor_map) n.entry }
