@@ -1,6 +1,6 @@
 -- What an entry comes to: why it is refused, its line, and its exact weight.
 use Rattle.std.specs.Prelude.{◌≡◌, ℕ, IsTrue, [], ◌∷◌, ◌++◌, pos, IfErr, Ok, Err, Result}
-use Rattle.exact.specs.Rounding.{Fraction, over, rounded_quotient}
+use Rattle.exact.specs.Rounding.{Fraction, over, rounded_quotient, IsWithinHalf}
 use Rattle.refusals.specs.declared.lack_codes.LackCodes.{LackCodes}
 use Rattle.refusals.specs.declared.refusal.Refusal.{Refusal}
 use Rattle.refusals.specs.declared.refusal.Refusal.TheVariants.{UnknownRow, UnfitSpan, UnfitQuantity, UnfitUnit, TooLarge}
@@ -104,7 +104,11 @@ module _ (y : ℕ) (factor_map : FactorMap) (e : Entry) where
   abbrev pub exact_grams : Fraction
   exact_grams = over (pos entry_product) entry_divisor
 
-  -- its line: of its exact weight, the nearest gram
+  -- the grams of a line are at most half a gram away from it
+  abbrev pub IsNearExact : BookedLine → Type 0
+  IsNearExact line = IsWithinHalf (pos line.grams) exact_grams
+
+  -- its line: the nearest gram of its exact emissions
   abbrev pub booked_line : LineNumbers
   booked_line = record { row = e.head.row; span = e.head.span; code = e.head.code; thousandths = booked_thousandths e.quantity; grams = rounded_quotient entry_product entry_divisor }
 

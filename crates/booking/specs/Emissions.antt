@@ -1,5 +1,10 @@
 -- What thousandths of a unit weigh at tenths of a gram for each unit.
-use Rattle.std.specs.Prelude.{ℕ, ◌*◌, ◌≤◌, Bool, if◌then◌else◌, ℤ, pos, neg_ℤ}
+use Rattle.std.specs.Prelude.{ℕ, ◌*◌, ◌≤◌, Bool, if◌then◌else◌, ℤ, pos, neg_ℤ, ◌≡◌, Result}
+use Rattle.refusals.specs.declared.refusal.Refusal.{Refusal}
+use Rattle.refusals.specs.declared.refusal.Refusal.TheVariants.{TooLarge}
+use Rattle.refusals.specs.Refusals.{GivesOrRefusesBy}
+use Rattle.booking.specs.declared.method.Terms.{Terms}
+use Rattle.exact.specs.Rounding.{rounded_quotient}
 
 -- what is divided to give grams: q thousandths, at the amount f, m times
 abbrev pub product : ℕ → ℕ → ℕ → ℕ
@@ -21,3 +26,9 @@ IsLineGrams g = g ≤ max_grams
 -- grams as they count
 abbrev pub signed_grams : Bool → ℕ → ℤ
 signed_grams subtracted g = if subtracted then neg_ℤ (pos g) else pos g
+
+-- r is the grams of q thousandths at the amount f: those nearest to the exact ones, unless the product is too large
+abbrev pub GivesGrams : ℕ → ℕ → Terms → Result ℕ Refusal → Type 0
+GivesGrams q f t r =
+    GivesOrRefusesBy (IsProductInRange (product q f t.multiplier)) TooLarge
+    (λ g. g ≡ rounded_quotient (product q f t.multiplier) (exact_divisor t.divisor)) r

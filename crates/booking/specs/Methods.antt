@@ -1,8 +1,12 @@
 -- The ways of reckoning: y is the building's life in years, s an entry's span.
-use Rattle.std.specs.Prelude.{ℕ, ◌/◌, Bool, not, ◌==◌}
+use Rattle.std.specs.Prelude.{ℕ, ◌/◌, Bool, not, ◌==◌, ◌≡◌, Result}
 use Rattle.domain.specs.Ranges.{IsBetween}
 use Rattle.booking.specs.declared.method.CalculationMethod.{CalculationMethod}
 use Rattle.booking.specs.declared.method.CalculationMethod.TheVariants.{OneOff, DistanceBased, Annual, Replacement, Leakage}
+use Rattle.refusals.specs.declared.refusal.Refusal.{Refusal}
+use Rattle.refusals.specs.declared.refusal.Refusal.TheVariants.{UnfitSpan}
+use Rattle.refusals.specs.Refusals.{GivesOrRefusesBy}
+use Rattle.booking.specs.declared.method.Terms.{Terms}
 
 -- up to 10,000 kilometres, 1 to 100 years, or none
 abbrev pub SpanFits : CalculationMethod → ℕ → Type 0
@@ -30,3 +34,8 @@ abbrev pub unit_fits : CalculationMethod → ℕ → Bool
 unit_fits DistanceBased u = u == 5
 unit_fits Leakage u = u == 4
 unit_fits k u = not (u == 5)
+
+-- r is what an entry with the span s is multiplied and divided by, in a building with a life of y years, if the span fits
+abbrev pub GivesTerms : CalculationMethod → ℕ → ℕ → Result Terms Refusal → Type 0
+GivesTerms k y s r =
+    GivesOrRefusesBy (SpanFits k s) UnfitSpan (λ t. (t.multiplier ≡ multiplier k y s) × (t.divisor ≡ divisor k s)) r

@@ -1,10 +1,13 @@
 -- Quantities: their range, and the thousandths that are booked.
-use Rattle.std.specs.Prelude.{◌≡◌, ℕ, ◌*◌, ◌≤◌, true, pos, unsigned_abs, Float}
+use Rattle.std.specs.Prelude.{◌≡◌, ℕ, ◌*◌, ◌≤◌, true, pos, unsigned_abs, Float, Result}
 use Rattle.std.specs.Float.{nan, inf, fin}
 use Rattle.std.specs.Float.Ieee.{up, down}
 use Rattle.exact.specs.Rounding.{Fraction, over, nearest_whole}
 use Rattle.domain.specs.declared.entry.Quantity.{Quantity}
 use Rattle.domain.specs.declared.entry.Quantity.TheVariants.{Counted, Measured}
+use Rattle.refusals.specs.declared.refusal.Refusal.{Refusal}
+use Rattle.refusals.specs.declared.refusal.Refusal.TheVariants.{UnfitQuantity}
+use Rattle.refusals.specs.Refusals.{GivesOrRefusesBy}
 
 -- a binary64 number from 0 to 1,000,000: it is m × 2^e, with 2^e written as up e / down e, and negative only where it is zero
 abbrev pub IsMeasuredInRange : Float → Type 0
@@ -30,3 +33,7 @@ exact_thousandths (Measured x) = measured_thousandths x
 -- and how many are booked
 abbrev pub booked_thousandths : Quantity → ℕ
 booked_thousandths q = unsigned_abs (nearest_whole (exact_thousandths q))
+
+-- r is the thousandths that are booked of a quantity, if it is in range
+abbrev pub BooksThousandths : Quantity → Result ℕ Refusal → Type 0
+BooksThousandths q r = GivesOrRefusesBy (IsQuantityInRange q) UnfitQuantity (λ t. t ≡ booked_thousandths q) r

@@ -2,7 +2,7 @@
 ghost use Rattle.std.specs.Prelude.{pos, IfOk};
 ghost use Rattle.exact.specs.Rounding.{IsWithinHalf};
 ghost use Rattle.refusals.specs.Refusals.{GivesOrRefuses};
-ghost use Rattle.booking.specs.Booking.{own_conditions, IsActivity, exact_grams, Books, GivesFactor};
+ghost use Rattle.booking.specs.Booking.{own_conditions, IsActivity, exact_grams, Books, GivesFactor, IsNearExact};
 
 use crate::line::BookedLine;
 use crate::quantity::thousandths;
@@ -20,7 +20,7 @@ pub fn book<S: FactorSource>(
     entry: &Entry,
 ) -> Result<BookedLine, Refusal>
     ensures value { Books building.now.life (S.factor_map source.now) entry.now result }
-    ensures near { IfOk result (λ line. IsWithinHalf (pos line.grams) (exact_grams building.now.life (S.factor_map source.now) entry.now)) }
+    ensures near { IfOk result (IsNearExact building.now.life (S.factor_map source.now) entry.now) }
 {
     let activity = activity_of(building.life, entry)?;
     let head = entry.head;

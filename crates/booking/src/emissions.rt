@@ -1,7 +1,7 @@
 //! What a quantity at a factor weighs.
 ghost use Rattle.std.specs.Prelude.{◌≡◌, ◌<◌, ◌≤◌};
 ghost use Rattle.exact.specs.Rounding.{rounded_quotient};
-ghost use Rattle.booking.specs.Emissions.{product, IsProductInRange, exact_divisor};
+ghost use Rattle.booking.specs.Emissions.{product, IsProductInRange, exact_divisor, GivesGrams};
 ghost use Rattle.refusals.specs.declared.refusal.Refusal.TheVariants.{TooLarge};
 ghost use Rattle.refusals.specs.Refusals.{GivesOrRefusesBy};
 
@@ -19,7 +19,7 @@ const PER_GRAM: u32 = 10_000;
 pub(crate) fn grams(thousandths: u64, factor: Factor, terms: Terms) -> Result<u64, Refusal>
     requires thousandths { thousandths ≤ 1000000000 }
     requires divisor { (0 < terms.divisor) × (terms.divisor ≤ 100) }
-    ensures { GivesOrRefusesBy (IsProductInRange (product thousandths factor.amount terms.multiplier)) TooLarge (λ g. g ≡ rounded_quotient (product thousandths factor.amount terms.multiplier) (exact_divisor terms.divisor)) result }
+    ensures { GivesGrams thousandths factor.amount terms result }
 {
     let product = (thousandths * u64::from(factor.amount))
         .checked_mul(u64::from(terms.multiplier))

@@ -1,7 +1,7 @@
 //! How rows reckon: what they ask of a span and of a unit, and what an entry is multiplied and divided by.
 ghost use Rattle.std.specs.Prelude.{◌≡◌};
 ghost use Rattle.domain.specs.Numbers.{unit_number};
-ghost use Rattle.booking.specs.Methods.{SpanFits, multiplier, divisor, unit_fits};
+ghost use Rattle.booking.specs.Methods.{SpanFits, multiplier, divisor, unit_fits, GivesTerms};
 ghost use Rattle.refusals.specs.declared.refusal.Refusal.TheVariants.{UnfitSpan};
 ghost use Rattle.refusals.specs.Refusals.{GivesOrRefusesBy};
 
@@ -36,7 +36,7 @@ pub struct Terms {
 impl CalculationMethod {
     /// How an entry with this span counts in a building of these years, if the span fits.
     pub fn terms(self, years: u16, span: u16) -> Result<Terms, Refusal>
-        ensures { GivesOrRefusesBy (SpanFits self span) UnfitSpan (λ t. (t.multiplier ≡ multiplier self years span) × (t.divisor ≡ divisor self span)) result }
+        ensures { GivesTerms self years span result }
     {
         let (multiplier, divisor) = match self {
             CalculationMethod::OneOff if span == 0 => (1, 1),

@@ -2,7 +2,7 @@
 ghost use Rattle.std.specs.Prelude.{◌≡◌, pos, IfOk};
 ghost use Rattle.domain.specs.declared.entry.Quantity.TheVariants.{Counted, Measured};
 ghost use Rattle.exact.specs.Rounding.{IsWithinHalf};
-ghost use Rattle.booking.specs.Quantities.{IsQuantityInRange, exact_thousandths, booked_thousandths};
+ghost use Rattle.booking.specs.Quantities.{IsQuantityInRange, exact_thousandths, booked_thousandths, BooksThousandths};
 ghost use Rattle.refusals.specs.declared.refusal.Refusal.TheVariants.{UnfitQuantity};
 ghost use Rattle.refusals.specs.Refusals.{GivesOrRefusesBy};
 
@@ -14,7 +14,7 @@ const MAX_COUNTED: u64 = 1_000_000_000;
 
 /// As counted, or the nearest to what was measured, if the quantity is in range.
 pub fn thousandths(quantity: Quantity) -> Result<u64, Refusal>
-    ensures value { GivesOrRefusesBy (IsQuantityInRange quantity) UnfitQuantity (λ t. t ≡ booked_thousandths quantity) result }
+    ensures value { BooksThousandths quantity result }
     ensures near { IfOk result (λ t. IsWithinHalf (pos t) (exact_thousandths quantity)) }
 {
     match quantity {
@@ -24,7 +24,7 @@ pub fn thousandths(quantity: Quantity) -> Result<u64, Refusal>
 }
 
 fn counted_thousandths(n: u64) -> Result<u64, Refusal>
-    ensures { GivesOrRefusesBy (IsQuantityInRange (Counted n)) UnfitQuantity (λ t. t ≡ booked_thousandths (Counted n)) result }
+    ensures { BooksThousandths (Counted n) result }
 {
     if n > MAX_COUNTED {
         return Err(Refusal::UnfitQuantity);
@@ -33,7 +33,7 @@ fn counted_thousandths(n: u64) -> Result<u64, Refusal>
 }
 
 fn measured_thousandths(x: f64) -> Result<u64, Refusal>
-    ensures { GivesOrRefusesBy (IsQuantityInRange (Measured x)) UnfitQuantity (λ t. t ≡ booked_thousandths (Measured x)) result }
+    ensures { BooksThousandths (Measured x) result }
 {
     if !is_in_range(x) {
         return Err(Refusal::UnfitQuantity);

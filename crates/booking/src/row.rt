@@ -3,7 +3,7 @@
 ghost use Rattle.std.specs.Prelude.{◌≡◌, ◌-◌};
 ghost use Rattle.booking.specs.Rows.{IsRowNumber, row_number};
 ghost use Rattle.refusals.specs.declared.refusal.Refusal.TheVariants.{UnknownRow};
-ghost use Rattle.refusals.specs.Refusals.{GivesOrRefusesBy};
+ghost use Rattle.refusals.specs.Refusals.{Decodes};
 
 use refusals::Refusal;
 
@@ -71,7 +71,7 @@ impl Row {
 impl TryFrom<u16> for Row {
     type Error = Refusal;
 
-    ghost try_from_gives = { λ n r. GivesOrRefusesBy (IsRowNumber n) UnknownRow (λ row. row_number row ≡ n) r };
+    ghost try_from_gives = { Decodes IsRowNumber UnknownRow row_number };
 
     fn try_from(n: u16) -> Result<Row, Refusal> {
         match n {

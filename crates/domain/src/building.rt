@@ -50,11 +50,11 @@ pub struct BuildingNumbers {
 impl TryFrom<BuildingNumbers> for Building {
     ghost use Rattle.domain.specs.Buildings.{numbers_of, IsBuildingInRange};
     ghost use Rattle.refusals.specs.declared.refusal.Refusal.TheVariants.{OutOfRange};
-    ghost use Rattle.refusals.specs.Refusals.{GivesOrRefusesBy};
+    ghost use Rattle.refusals.specs.Refusals.{Decodes};
 
     type Error = Refusal;
 
-    ghost try_from_gives = { λ n r. GivesOrRefusesBy (IsBuildingInRange n) OutOfRange (λ b. numbers_of b ≡ n) r };
+    ghost try_from_gives = { Decodes IsBuildingInRange OutOfRange numbers_of };
 
     fn try_from(n: BuildingNumbers) -> Result<Building, Refusal> {
         let fits = (1..=MAX_AREA).contains(&n.area)

@@ -35,11 +35,11 @@ pub struct FactorRow {
 impl TryFrom<FactorNumbers> for Factor {
     ghost use Rattle.domain.specs.Factors.{factor_numbers, IsFactorInRange};
     ghost use Rattle.refusals.specs.declared.refusal.Refusal.TheVariants.{OutOfRange};
-    ghost use Rattle.refusals.specs.Refusals.{GivesOrRefusesBy};
+    ghost use Rattle.refusals.specs.Refusals.{Decodes};
 
     type Error = Refusal;
 
-    ghost try_from_gives = { λ n r. GivesOrRefusesBy (IsFactorInRange n) OutOfRange (λ f. factor_numbers f ≡ n) r };
+    ghost try_from_gives = { Decodes IsFactorInRange OutOfRange factor_numbers };
 
     fn try_from(n: FactorNumbers) -> Result<Factor, Refusal> {
         if n.amount > MAX_AMOUNT {

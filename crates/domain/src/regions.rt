@@ -3,7 +3,7 @@ ghost use Rattle.std.specs.Prelude.{◌≡◌};
 ghost use Rattle.domain.specs.Numbers.{region_number};
 ghost use Rattle.domain.specs.Ranges.{IsRegionNumber};
 ghost use Rattle.refusals.specs.declared.refusal.Refusal.TheVariants.{OutOfRange};
-ghost use Rattle.refusals.specs.Refusals.{GivesOrRefusesBy};
+ghost use Rattle.refusals.specs.Refusals.{Decodes};
 
 use refusals::Refusal;
 
@@ -20,7 +20,7 @@ pub enum Region {
 impl TryFrom<u16> for Region {
     type Error = Refusal;
 
-    ghost try_from_gives = { λ n r. GivesOrRefusesBy (IsRegionNumber n) OutOfRange (λ region. region_number region ≡ n) r };
+    ghost try_from_gives = { Decodes IsRegionNumber OutOfRange region_number };
 
     fn try_from(n: u16) -> Result<Region, Refusal> {
         match n {

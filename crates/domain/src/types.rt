@@ -3,7 +3,7 @@ ghost use Rattle.std.specs.Prelude.{◌≡◌};
 ghost use Rattle.domain.specs.Numbers.{type_number};
 ghost use Rattle.domain.specs.Ranges.{IsTypeNumber};
 ghost use Rattle.refusals.specs.declared.refusal.Refusal.TheVariants.{OutOfRange};
-ghost use Rattle.refusals.specs.Refusals.{GivesOrRefusesBy};
+ghost use Rattle.refusals.specs.Refusals.{Decodes};
 
 use refusals::Refusal;
 
@@ -23,7 +23,7 @@ pub enum BuildingType {
 impl TryFrom<u16> for BuildingType {
     type Error = Refusal;
 
-    ghost try_from_gives = { λ n r. GivesOrRefusesBy (IsTypeNumber n) OutOfRange (λ building_type. type_number building_type ≡ n) r };
+    ghost try_from_gives = { Decodes IsTypeNumber OutOfRange type_number };
 
     fn try_from(n: u16) -> Result<BuildingType, Refusal> {
         match n {

@@ -3,7 +3,7 @@ ghost use Rattle.std.specs.Prelude.{◌≡◌};
 ghost use Rattle.domain.specs.Numbers.{unit_number};
 ghost use Rattle.domain.specs.Ranges.{IsUnitNumber};
 ghost use Rattle.refusals.specs.declared.refusal.Refusal.TheVariants.{OutOfRange};
-ghost use Rattle.refusals.specs.Refusals.{GivesOrRefusesBy};
+ghost use Rattle.refusals.specs.Refusals.{Decodes};
 
 use refusals::Refusal;
 
@@ -22,7 +22,7 @@ pub enum FactorUnit {
 impl TryFrom<u16> for FactorUnit {
     type Error = Refusal;
 
-    ghost try_from_gives = { λ n r. GivesOrRefusesBy (IsUnitNumber n) OutOfRange (λ unit. unit_number unit ≡ n) r };
+    ghost try_from_gives = { Decodes IsUnitNumber OutOfRange unit_number };
 
     fn try_from(n: u16) -> Result<FactorUnit, Refusal> {
         match n {

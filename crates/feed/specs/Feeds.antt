@@ -110,3 +110,8 @@ pub record IsLawfulReader (feed : List ℕ) (answers : List ReaderAnswer) (rest 
   pub places : AreConsecutive 1 0 (handed_parts answers)
   pub again : IsRepeated answers
   pub ends : EndsTruly answers rest
+
+-- a reader that was r gives the answer a and is t then: with any calls that led to r, this call keeps the law
+abbrev pub KeepsReaderLaw : Reader → ReaderAnswer → Reader → Type 0
+KeepsReaderLaw r a t =
+    (feed : List ℕ) (before : List ReaderAnswer) → ReaderHistory feed before r → IsLawfulReader feed (a ∷ before) (rest_of t)

@@ -1,8 +1,11 @@
 -- The kinds of notes: their numbers, their lengths and their words.
-use Rattle.std.specs.Prelude.{◌≡◌, ℕ, if◌then◌else◌, ◌==◌, List, [], ◌∷◌, codes, Option, Some, None}
+use Rattle.std.specs.Prelude.{◌≡◌, ℕ, if◌then◌else◌, ◌==◌, List, [], ◌∷◌, codes, Option, Some, None, IsSome, Result}
 use Rattle.feed.specs.declared.kind.Kind.{Kind}
 use Rattle.feed.specs.declared.kind.Kind.TheVariants.{Building, Factor, Counted, Measured, Withdrawal}
 use Rattle.feed.specs.Frames.{note_kind}
+use Rattle.refusals.specs.declared.refusal.Refusal.{Refusal}
+use Rattle.refusals.specs.declared.refusal.Refusal.TheVariants.{UnwantedKind}
+use Rattle.refusals.specs.Refusals.{GivesOrRefusesBy}
 
 abbrev pub kind_number : Kind → ℕ
 kind_number Building = 1
@@ -46,3 +49,7 @@ kind_of_note note = kind_of (note_kind note)
 -- a note is of this kind
 abbrev pub IsOfKind : Kind → List ℕ → Type 0
 IsOfKind kind note = kind_of_note note ≡ Some kind
+
+-- r is the kind that has the number n, and where there is none the refusal of an unwanted kind
+abbrev pub DecodesKind : ℕ → Result Kind Refusal → Type 0
+DecodesKind n r = GivesOrRefusesBy (IsSome (kind_of n)) UnwantedKind (λ kind. kind_of n ≡ Some kind) r

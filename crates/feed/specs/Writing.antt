@@ -1,5 +1,5 @@
 -- What is written for a feed.
-use Rattle.std.specs.Prelude.{ℕ, List, Option}
+use Rattle.std.specs.Prelude.{ℕ, List, Option, ◌≡◌, IfSome}
 use Rattle.std.specs.Io.KnownBytes.{Appends}
 
 -- a writer of which it is known what it held now holds that, and then a text of which P holds; of another writer this says nothing
@@ -7,3 +7,12 @@ pub record WritesText (P : List ℕ → Type 0) (held holds : Option (List ℕ))
   pub text : List ℕ
   pub says : P text
   pub appended : Appends held holds text
+
+-- what is written of all that a reader had, where it is known what the reader had and what the writer held; IsTextOf says
+-- which texts belong to a feed
+abbrev pub WritesFor : (List ℕ → List ℕ → Type 0) → (had held holds : Option (List ℕ)) → Type 0
+WritesFor IsTextOf had held holds = IfSome had (λ feed. WritesText (IsTextOf feed) held holds)
+
+-- no other text is one of which P holds
+abbrev pub IsOnlyText : (List ℕ → Type 0) → List ℕ → Type 0
+IsOnlyText P text = (other : List ℕ) → P other → other ≡ text

@@ -1,6 +1,6 @@
 //! The kinds of notes.
 ghost use Rattle.std.specs.Prelude.{◌≡◌, Some, IsSome};
-ghost use Rattle.feed.specs.Kinds.{kind_number, kind_of, note_length, kind_word};
+ghost use Rattle.feed.specs.Kinds.{kind_number, DecodesKind, note_length, kind_word};
 ghost use Rattle.refusals.specs.declared.refusal.Refusal.TheVariants.{UnwantedKind};
 ghost use Rattle.refusals.specs.Refusals.{GivesOrRefusesBy};
 
@@ -33,7 +33,7 @@ impl Kind {
 impl TryFrom<u16> for Kind {
     type Error = Refusal;
 
-    ghost try_from_gives = { λ n r. GivesOrRefusesBy (IsSome (kind_of n)) UnwantedKind (λ kind. kind_of n ≡ Some kind) r };
+    ghost try_from_gives = { DecodesKind };
 
     fn try_from(n: u16) -> Result<Kind, Refusal> {
         match n {

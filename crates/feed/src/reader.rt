@@ -28,7 +28,7 @@ pub struct Reader<'a> {
 }
 
 impl<'a> Reader<'a> {
-    ghost use Rattle.feed.specs.Feeds.{IsNewReader, ReaderAnswer, AnswersNext, HandsOutNote, HandsOutRow, ReaderHistory, IsLawfulReader, rest_of, IsRest};
+    ghost use Rattle.feed.specs.Feeds.{IsNewReader, AnswersNext, HandsOutNote, HandsOutRow, KeepsReaderLaw, IsRest};
 
     pub fn new(feed: &'a [u8]) -> Reader<'a>
         ensures { IsNewReader feed.now result }
@@ -44,7 +44,7 @@ impl<'a> Reader<'a> {
     /// The next note, or none where the feed has ended. Where there is none or it is refused, the reader stays, and answers the same again.
     pub fn next(&mut self) -> Result<Option<Part<'a>>, Refusal>
         ensures value { AnswersNext self.old result self.new }
-        ensures law { (feed : List ℕ) (before : List ReaderAnswer) → ReaderHistory feed before self.old → IsLawfulReader feed (result ∷ before) (rest_of self.new) }
+        ensures law { KeepsReaderLaw self.old result self.new }
     {
         let left = self.rest();
         if left.bytes.is_empty() {

@@ -55,3 +55,7 @@ pub record IsAwarded (b : BuildingNumbers) (w : ℤ) (n : ℕ) : Type 0 where
   pub graded : n ≤ 2
   pub met : (n ≡ 0) ⊎ MeetsGrade n b w
   pub highest : (m : ℕ) → n < m → m ≤ 2 → MeetsGrade m b w → ⊥
+
+-- no grade but n is given
+abbrev pub IsOnlyGrade : BuildingNumbers → ℤ → ℕ → Type 0
+IsOnlyGrade b w n = (m : ℕ) → IsAwarded b w m → m ≡ n

@@ -2,7 +2,7 @@
 ghost use Rattle.std.specs.Prelude.{◌≡◌, ℕ, ◌↔◌, IsTrue};
 ghost use Rattle.domain.specs.Buildings.{numbers_of};
 ghost use Rattle.totals.specs.Sums.{sums_of};
-ghost use Rattle.grades.specs.Grades.{grade_number, energy_emissions, MeetsGrade, IsAwarded};
+ghost use Rattle.grades.specs.Grades.{grade_number, energy_emissions, MeetsGrade, IsAwarded, IsOnlyGrade};
 ghost use Rattle.totals.specs.Sizes.{IsWithinTotals};
 
 use crate::demands::meets;
@@ -17,7 +17,7 @@ use totals::Totals;
 #[tactic(auto, using(crate::proofs::Awarding::one_grade))]
 pub fn grade(building: &Building, totals: Totals) -> Grade
     ensures awarded { IsAwarded (numbers_of building.now) (energy_emissions (sums_of totals)) (grade_number result) }
-    ensures only { (n : ℕ) → IsAwarded (numbers_of building.now) (energy_emissions (sums_of totals)) n → n ≡ grade_number result }
+    ensures only { IsOnlyGrade (numbers_of building.now) (energy_emissions (sums_of totals)) (grade_number result) }
 {
     let energy_emissions = energy_emissions(totals);
     if is_near_zero(building, energy_emissions) {

@@ -11,7 +11,7 @@ use Rattle.totals.proofs.Adding.{whole, natural, held}
 use Rattle.totals.proofs.Choosing.{one_alone, grams_within, counts_within}
 use Rattle.pages.specs.declared.figure.Figure.{Figure}
 use Rattle.pages.specs.Cuts.{Assignment, IsCut}
-use Rattle.pages.specs.Pages.{whole_kilograms, heading_sums, running_sum, is_between, heading_figure, page_figures, total_figure, printed_kilograms, figures_between, Writes, AddUp, IsNearGrams}
+use Rattle.pages.specs.Pages.{whole_kilograms, heading_sums, running_sum, heading_figure, page_figures, total_figure, Writes, AddUp, NeighboursAreNear}
 use Rattle.pages.proofs.Parts.{additive_sums, Cutting, up_to, sum_more, sum_none, sum_all}
 use Rattle.pages.proofs.Telescope.{nothing_stays, adds_up}
 use Rattle.pages.proofs.Nearby.{is_rounded, near_between}
@@ -40,9 +40,9 @@ pub record Page (cut : Assignment) (t : Totals) (n : ℕ) : Type 0 where
 pub page : {cut : Assignment} {n : ℕ} (t : Totals) → IsCut cut → cut.size ≡ n → length t.grams ≡ 22 → length t.counts ≡ 22 → Page cut t n
 page t lawful sized g c = record { cutting = record { lawful = lawful; adds = additive_sums t g c }; sized = sized }
 
--- any run of its headings is near what it comes to
-pub near_page : {cut : Assignment} {t : Totals} {n : ℕ} → Page cut t n → (i j : ℕ) → i ≤ j → j ≤ n → IsNearGrams (printed_kilograms (figures_between i j (page_figures cut (sums_of t)))) ((heading_sums cut (sums_of t)).grams (is_between i j))
-near_page p i j l m = near_between p.cutting i j l (omega (arith, p.sized))
+-- any neighbouring headings of it are near the grams under them
+pub near_page : {cut : Assignment} {t : Totals} {n : ℕ} → Page cut t n → NeighboursAreNear cut (sums_of t)
+near_page p i j l m = near_between p.cutting i j l m
 
 -- totals by row, and the same under the headings
 pub record Headed (cut : Assignment) (t u : Totals) (n : ℕ) : Type 0 where

@@ -2,7 +2,7 @@
 ghost use Rattle.std.specs.Prelude.{◌≡◌, ℕ, ◌≤◌, IfOk};
 ghost use Rattle.exact.specs.Rounding.{nearest_whole, over};
 ghost use Rattle.totals.specs.Sums.{sums_of};
-ghost use Rattle.pages.specs.Pages.{Writes, AddUp, IsNearGrams, page_figures, heading_sums, printed_kilograms, figures_between, is_between};
+ghost use Rattle.pages.specs.Pages.{Writes, AddUp, IsNearGrams, page_figures, heading_sums, printed_kilograms, figures_between, is_between, NeighboursAreNear};
 
 use crate::cut::Cut;
 use crate::figure::Figure;
@@ -19,7 +19,7 @@ const KILOGRAM: u32 = 1_000;
 pub fn write_page<C: Cut>(totals: Totals, cut: &C, figures: &mut [Figure]) -> Result<Figure, Refusal>
     ensures value { Writes (C.assignment cut.now) (sums_of totals) figures.old result figures.new }
     ensures adds { IfOk result (λ total. AddUp (page_figures (C.assignment cut.now) (sums_of totals)) total) }
-    ensures near { (i j : ℕ) → i ≤ j → j ≤ C.HEADINGS → IsNearGrams (printed_kilograms (figures_between i j (page_figures (C.assignment cut.now) (sums_of totals)))) ((heading_sums (C.assignment cut.now) (sums_of totals)).grams (is_between i j)) }
+    ensures near { NeighboursAreNear (C.assignment cut.now) (sums_of totals) }
 {
     if figures.len() < C::HEADINGS {
         return Err(Refusal::TooFewPlaces);

@@ -68,3 +68,7 @@ GivesOrRefuses cs Q (Err f) = IsLeastFailing cs (refusal_number f)
 abbrev pub GivesOrRefusesBy : {X : Type 0} → Type 0 → Refusal → (X → Type 0) → Result X Refusal → Type 0
 GivesOrRefusesBy P f Q (Ok x) = P × Q x
 GivesOrRefusesBy P f Q (Err e) = (e ≡ f) × (P → ⊥)
+
+-- r is the value whose numbers are n, where these are valid, and else the refusal f
+abbrev pub Decodes : {N X : Type 0} → (N → Type 0) → Refusal → (X → N) → N → Result X Refusal → Type 0
+Decodes IsValid f numbers n r = GivesOrRefusesBy (IsValid n) f (λ x. numbers x ≡ n) r
