@@ -1,5 +1,5 @@
 //! A note that is a row of a project's own factors.
-ghost use Rattle.std.specs.Prelude.{◌≡◌, ◌≤◌, length, MatchBool};
+ghost use Rattle.std.specs.Prelude.{◌≡◌, ◌≤◌, length, MatchBool, ◌↔◌, IsTrue};
 ghost use Rattle.feed.specs.FactorFields.{factor_row_of_note};
 ghost use Rattle.feed.specs.Frames.{IsFramed, first_note};
 ghost use Rattle.feed.specs.Kinds.{note_length};
@@ -24,7 +24,7 @@ pub fn read_row(bytes: &[u8]) -> Result<FactorRow, Refusal>
 
 // Whether the bytes begin with a note of this kind.
 pub(crate) fn row_is_next(bytes: &[u8]) -> bool
-    ensures { MatchBool result (StartsWithRow bytes.now) (StartsWithRow bytes.now → ⊥) }
+    ensures { IsTrue result ↔ StartsWithRow bytes.now }
 {
     Head::read(bytes).is_ok_and(|head| head.kind == u16::from(Kind::Factor))
 }

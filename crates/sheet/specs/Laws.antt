@@ -8,9 +8,10 @@ use Rattle.grades.specs.Grades.{energy_emissions, IsAwarded}
 use Rattle.pages.specs.declared.figure.Figure.{Figure}
 use Rattle.pages.specs.Cuts.{Assignment}
 use Rattle.pages.specs.Pages.{heading_sums, page_figures, total_figure, printed_kilograms, figures_between, is_between, AddUp}
-use Rattle.sheet.specs.Histories.{Event, send_event, page_event, grade_event, sent_bytes}
+use Rattle.sheet.specs.Histories.{Event, send_event, page_event, grade_event, sent_bytes, History}
 use Rattle.sheet.specs.LineSums.{booked_sums, exact_sum_in}
 use Rattle.sheet.specs.Rolls.{AreCounted}
+use Rattle.sheet.specs.States.{State}
 
 -- so many kilograms lie less than 1,000 + n / 2 grams from the exact grams x
 pub record IsNear (kg : ℤ) (n : ℕ) (x : Fraction) : Type 0 where
@@ -51,3 +52,9 @@ pub record IsLawful (b : BuildingNumbers) (factor_map : FactorMap) (history : Li
   pub steady : (later middle before : List Event) (cut cut' : Assignment) (total total' : Figure) (places after places' after' : List Figure) → history ≡ later ++ (page_event cut places (Ok total) after ∷ middle ++ (page_event cut' places' (Ok total') after' ∷ before)) → NoneAccepted middle → total ≡ total'
   -- of every grade
   pub grades : (later before : List Event) (grade : ℕ) → history ≡ later ++ (grade_event grade ∷ before) → IsLawfulGrade b factor_map (sent_bytes before) grade
+
+-- whatever calls led to the sheet s, the law holds of them and of the call e after them
+abbrev pub KeepsLaw : State → Event → Type 0
+KeepsLaw s e =
+    (b : BuildingNumbers) (factor_map : FactorMap) (before : List Event) → History b factor_map before s
+    → IsLawful b factor_map (e ∷ before)

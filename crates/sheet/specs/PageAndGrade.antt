@@ -1,5 +1,5 @@
 -- An account of a whole sheet, as a run of its calls.
-use Rattle.std.specs.Prelude.{◌≡◌, ℕ, List, ◌∷◌, map, reverse, Result}
+use Rattle.std.specs.Prelude.{◌≡◌, ℕ, List, ◌∷◌, map, reverse, Result, IfOk, take}
 use Rattle.refusals.specs.declared.refusal.Refusal.{Refusal}
 use Rattle.factors.specs.Maps.{FactorMap}
 use Rattle.domain.specs.declared.building.BuildingNumbers.{BuildingNumbers}
@@ -7,6 +7,7 @@ use Rattle.pages.specs.declared.figure.Figure.{Figure}
 use Rattle.pages.specs.Cuts.{Assignment}
 use Rattle.sheet.specs.Histories.{Event, send_event, page_event, grade_event, History}
 use Rattle.sheet.specs.States.{State}
+use Rattle.sheet.specs.Laws.{IsLawfulPage, IsLawfulGrade}
 
 -- sends with their answers, as calls
 abbrev pub send_events : List (List ℕ × Result (Unit {0}) Refusal) → List Event
@@ -18,3 +19,9 @@ pub record SendsThenDraws (b : BuildingNumbers) (factor_map : FactorMap) (bytes 
   pub last : State
   pub sent : map (λ a. a.0) answered ≡ reverse bytes
   pub history : History b factor_map (grade_event grade ∷ (page_event cut places answer after ∷ send_events answered)) last
+
+-- these calls were made, and the law says of their page, where it was not refused, and of their grade what it says
+pub record IsPageAndGrade (b : BuildingNumbers) (factor_map : FactorMap) (bytes : List (List ℕ)) (cut : Assignment) (places : List Figure) (answer : Result Figure Refusal) (after : List Figure) (grade : ℕ) : Type 0 where
+  pub calls : SendsThenDraws b factor_map bytes cut places answer after grade
+  pub page : IfOk answer (λ total. IsLawfulPage b.life factor_map (reverse bytes) cut (take cut.size after) total)
+  pub award : IsLawfulGrade b factor_map (reverse bytes) grade

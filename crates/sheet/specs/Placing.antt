@@ -35,6 +35,10 @@ Agrees new (Some old) = new.revision ≡ old.revision → EqualLines new.line ol
 abbrev pub replacing_conditions : PlaceNumbers → Option PlaceNumbers → Conditions
 replacing_conditions new old = (refusal_number Superseded, IsAhead new old) ∷ (refusal_number Contradicted, Agrees new old) ∷ []
 
+-- r says whether a line may replace the one that is held under its number
+abbrev pub MayReplace : PlaceNumbers → PlaceNumbers → Result (Unit {0}) Refusal → Type 0
+MayReplace new old r = GivesOrRefuses (replacing_conditions new (Some old)) (λ _. Unit {0}) r
+
 -- the number k is among these
 abbrev pub IsAmong : ℕ → List ℕ → Type 0
 IsAmong k [] = ⊥

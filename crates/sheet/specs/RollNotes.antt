@@ -1,13 +1,14 @@
 -- What is sent into a sheet, and what it comes to there.
-use Rattle.std.specs.Prelude.{ℕ, List, [], Some, None, Option, option_map}
+use Rattle.std.specs.Prelude.{ℕ, List, [], Some, None, Option, option_map, ◌≡◌, Result}
 use Rattle.refusals.specs.declared.refusal.Refusal.{Refusal}
-use Rattle.refusals.specs.Refusals.{Conditions}
+use Rattle.refusals.specs.Refusals.{Conditions, GivesOrRefuses}
 use Rattle.factors.specs.Maps.{FactorMap}
 use Rattle.feed.specs.declared.sent_note.SentNote.{SentNote}
 use Rattle.feed.specs.SentNotes.{entry_of_content, sent_note_of}
 use Rattle.domain.specs.declared.entry.Entry.{Entry}
 use Rattle.booking.specs.Booking.{NamesLack, booking_conditions, booked_line}
-use Rattle.sheet.specs.Places.{PlaceNumbers}
+use Rattle.sheet.specs.Places.{PlaceNumbers, place_numbers}
+use Rattle.sheet.specs.declared.place.Place.{Place}
 
 -- a note by its number and its revision, with its entry if it is one
 pub record RollNote : Type 0 where
@@ -38,3 +39,7 @@ module _ (y : ℕ) (factor_map : FactorMap) where
   -- what a note puts into its place
   abbrev pub note_place : RollNote → PlaceNumbers
   note_place n = record { number = n.number; revision = n.revision; line = option_map (booked_line y factor_map) n.entry }
+
+  -- r is the place that a note takes, or why its entry is unfit
+  abbrev pub GivesPlace : RollNote → Result Place Refusal → Type 0
+  GivesPlace n r = GivesOrRefuses (entry_conditions n.entry) (λ p. place_numbers p ≡ note_place n) r

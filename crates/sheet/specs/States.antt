@@ -1,7 +1,7 @@
 -- What a sheet holds.
 use Rattle.std.specs.Prelude.{◌≡◌, ℕ, List, [], ◌++◌, IfOk, IfErr, Result}
 use Rattle.refusals.specs.declared.refusal.Refusal.{Refusal}
-use Rattle.refusals.specs.Refusals.{answer_number, Conditions, IsAnswerNumber}
+use Rattle.refusals.specs.Refusals.{answer_number, Conditions, IsAnswerNumber, GivesOrRefuses}
 use Rattle.factors.specs.Maps.{FactorMap}
 use Rattle.domain.specs.declared.building.BuildingNumbers.{BuildingNumbers}
 use Rattle.domain.specs.Buildings.{numbers_of}
@@ -11,7 +11,7 @@ use Rattle.feed.specs.SentNotes.{IsSent}
 use Rattle.sheet.specs.RollNotes.{roll_note, entry_conditions, NamesLackOf, note_place}
 use Rattle.sheet.specs.declared.sheet.Sheet.{Sheet}
 use Rattle.sheet.specs.declared.place.Place.{Place}
-use Rattle.sheet.specs.Places.{PlaceNumbers, book_places, ChangesOnePlace}
+use Rattle.sheet.specs.Places.{PlaceNumbers, book_places, ChangesOnePlace, place_numbers}
 use Rattle.sheet.specs.Placing.{placing_conditions, places_with}
 
 -- a sheet: its building, its source's map, and what its book holds
@@ -51,9 +51,19 @@ state_with s new = record { building = s.building; factor_map = s.factor_map; pl
 abbrev pub send_conditions : State → List ℕ → Conditions
 send_conditions s bs = content_conditions s.building.life s.factor_map bs ++ placing_conditions s.places (sent_place s bs)
 
+-- r is the place that the first note of the bytes takes in the sheet s, or why that note is unfit; what the book holds
+-- plays no part
+abbrev pub GivesSentPlace : State → List ℕ → Result Place Refusal → Type 0
+GivesSentPlace s bs r =
+    GivesOrRefuses (content_conditions s.building.life s.factor_map bs) (λ p. place_numbers p ≡ sent_place s bs) r
+
+-- a refusal for want of a factor names the code that the note asked for, and the one that is lacking
+abbrev pub NamesSentLack : State → List ℕ → Refusal → Type 0
+NamesSentLack s bs f = NamesLackOf s.building.life s.factor_map (roll_note (first_note bs)).entry f
+
 -- a sheet s is sent bytes: it answers r, and is t then. By its number the answer is 0 where all that is asked holds, and the line is let in; else it is the smallest number of what fails, and nothing is changed
 pub record Sends (s : State) (bs : List ℕ) (r : Result (Unit {0}) Refusal) (t : State) : Type 0 where
   pub number : IsAnswerNumber (send_conditions s bs) (answer_number r)
   pub let_in : IfOk r (λ _. t ≡ state_with s (sent_place s bs))
   pub refused : IfErr r (λ _. t ≡ s)
-  pub named : IfErr r (NamesLackOf s.building.life s.factor_map (roll_note (first_note bs)).entry)
+  pub named : IfErr r (NamesSentLack s bs)

@@ -2,7 +2,7 @@
 ghost use Rattle.std.specs.Prelude.{reverse, map, take, IfOk};
 ghost use Rattle.domain.specs.Buildings.{numbers_of};
 ghost use Rattle.grades.specs.Grades.{grade_number};
-ghost use Rattle.sheet.specs.PageAndGrade.{SendsThenDraws};
+ghost use Rattle.sheet.specs.PageAndGrade.{SendsThenDraws, IsPageAndGrade};
 ghost use Rattle.sheet.specs.Laws.{IsLawfulPage, IsLawfulGrade};
 
 use crate::sheet::Sheet;
@@ -20,9 +20,8 @@ pub fn page_and_grade<S: FactorSource + Drop, C: Cut>(
     cut: &C,
     figures: &mut [Figure],
 ) -> (Result<Figure, Refusal>, Grade)
-    ensures history { SendsThenDraws (numbers_of building) (S.factor_map source) (map (λ bytes. bytes.now) sends.now) (C.assignment cut.now) figures.old result.0 figures.new (grade_number result.1) }
-    ensures page { IfOk result.0 (λ total. IsLawfulPage building.life (S.factor_map source) (reverse (map (λ bytes. bytes.now) sends.now)) (C.assignment cut.now) (take (C.assignment cut.now).size figures.new) total) }
-    ensures grade { IsLawfulGrade (numbers_of building) (S.factor_map source) (reverse (map (λ bytes. bytes.now) sends.now)) (grade_number result.1) }
+    ensures { IsPageAndGrade (numbers_of building) (S.factor_map source) (map (λ bytes. bytes.now) sends.now)
+        (C.assignment cut.now) figures.old result.0 figures.new (grade_number result.1) }
 {
     let mut sheet = Sheet::open(building, source);
     for bytes in sends {

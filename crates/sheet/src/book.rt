@@ -1,5 +1,5 @@
 //! The book: a place for each number, in the order in which numbers first came.
-ghost use Rattle.std.specs.Prelude.{◌≡◌, ◌<◌, ◌≤◌, [], ◌==◌, length, Some, None, MatchBool};
+ghost use Rattle.std.specs.Prelude.{◌≡◌, ◌<◌, ◌≤◌, [], ◌==◌, length, Some, None, MatchBool, ◌↔◌, IsTrue};
 ghost use Rattle.std.specs.List.{position};
 ghost use Rattle.sheet.specs.LineSums.{held_lines, sums_of_lines};
 ghost use Rattle.totals.specs.Sums.{sums_of};
@@ -97,7 +97,7 @@ impl Book {
     }
 
     fn is_full(&self) -> bool
-        ensures { MatchBool result (PLACES ≤ self.now.used) (self.now.used < PLACES) }
+        ensures { IsTrue result ↔ (PLACES ≤ self.now.used) }
     {
         self.used >= PLACES
     }

@@ -1,11 +1,11 @@
 //! A place of the book, and what a note puts into one.
-ghost use Rattle.std.specs.Prelude.{◌≡◌, Some, MatchBool, IfErr, option_map};
+ghost use Rattle.std.specs.Prelude.{◌≡◌, Some, MatchBool, IfErr, option_map, ◌↔◌, IsTrue};
 ghost use Rattle.refusals.specs.Refusals.{GivesOrRefuses};
 ghost use Rattle.booking.specs.Booking.{line_numbers};
 ghost use Rattle.sheet.specs.LineSums.{line_in_range};
-ghost use Rattle.sheet.specs.RollNotes.{entry_conditions, NamesLackOf, roll_note_of, note_place};
+ghost use Rattle.sheet.specs.RollNotes.{entry_conditions, NamesLackOf, roll_note_of, note_place, GivesPlace};
 ghost use Rattle.sheet.specs.Places.{content_line, place_numbers};
-ghost use Rattle.sheet.specs.Placing.{EqualLines, replacing_conditions};
+ghost use Rattle.sheet.specs.Placing.{EqualLines, replacing_conditions, MayReplace};
 
 use crate::record::Record;
 use booking::BookedLine;
@@ -38,7 +38,7 @@ pub(crate) const EMPTY: Place = Place {
 impl PlaceContent {
     // Whether both are withdrawn, or both say the same. Their grams follow from the rest.
     fn equals(&self, other: &PlaceContent) -> bool
-        ensures { MatchBool result (EqualLines (content_line self.now) (content_line other.now)) (EqualLines (content_line self.now) (content_line other.now) → ⊥) }
+        ensures { IsTrue result ↔ EqualLines (content_line self.now) (content_line other.now) }
     {
         match (self, other) {
             (PlaceContent::Withdrawn, PlaceContent::Withdrawn) => true,
@@ -60,7 +60,7 @@ impl Place {
         building: &Building,
         source: &S,
     ) -> Result<Place, Refusal>
-        ensures value { GivesOrRefuses (entry_conditions building.now.life (S.factor_map source.now) (roll_note_of sent.now).entry) (λ p. place_numbers p ≡ note_place building.now.life (S.factor_map source.now) (roll_note_of sent.now)) result }
+        ensures value { GivesPlace building.now.life (S.factor_map source.now) (roll_note_of sent.now) result }
         ensures named { IfErr result (NamesLackOf building.now.life (S.factor_map source.now) (roll_note_of sent.now).entry) }
     {
         let content = match sent.content {
@@ -89,7 +89,7 @@ impl Place {
 
     // Whether it may take the place of an older one under the same number.
     pub(crate) fn replaces(&self, old: &Place) -> Result<(), Refusal>
-        ensures { GivesOrRefuses (replacing_conditions (place_numbers self.now) (Some (place_numbers old.now))) (λ _. Unit {0}) result }
+        ensures { MayReplace (place_numbers self.now) (place_numbers old.now) result }
     {
         if self.revision < old.revision {
             return Err(Refusal::Superseded);

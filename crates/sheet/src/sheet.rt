@@ -7,10 +7,10 @@ ghost use Rattle.feed.specs.Frames.{first_note};
 ghost use Rattle.factors.specs.Maps.{FactorMap};
 ghost use Rattle.grades.specs.Grades.{grade_number};
 ghost use Rattle.sheet.specs.Histories.{DrawsPage, GivesGrade, Event, send_event, page_event, grade_event, History};
-ghost use Rattle.sheet.specs.Laws.{IsLawful};
+ghost use Rattle.sheet.specs.Laws.{IsLawful, KeepsLaw};
 ghost use Rattle.sheet.specs.RollNotes.{roll_note, NamesLackOf};
 ghost use Rattle.sheet.specs.Places.{place_numbers};
-ghost use Rattle.sheet.specs.States.{state_of, new_state, content_conditions, sent_place, ChangesPlaceOnly, Sends};
+ghost use Rattle.sheet.specs.States.{state_of, new_state, content_conditions, sent_place, ChangesPlaceOnly, Sends, GivesSentPlace, NamesSentLack};
 
 use crate::book::Book;
 use crate::place::Place;
@@ -45,7 +45,7 @@ impl<S: FactorSource> Sheet<S> {
         ensures value { Sends (state_of S.factor_map self.old) bytes.now result (state_of S.factor_map self.new) }
         ensures changed { IfOk result (λ _. ChangesPlaceOnly self.old self.new) }
         ensures refused { IfErr result (λ _. self.new ≡ self.old) }
-        ensures law { (b : BuildingNumbers) (factor_map : FactorMap) (before : List Event) → History b factor_map before (state_of S.factor_map self.old) → IsLawful b factor_map (send_event bytes.now result ∷ before) }
+        ensures law { KeepsLaw (state_of S.factor_map self.old) (send_event bytes.now result) }
     {
         let place = self.place_of(bytes)?;
         self.book.put(place)
@@ -53,8 +53,8 @@ impl<S: FactorSource> Sheet<S> {
 
     // The place that the first note of the bytes takes, whatever the book holds.
     fn place_of(&self, bytes: &[u8]) -> Result<Place, Refusal>
-        ensures value { GivesOrRefuses (content_conditions self.now.building.life (S.factor_map self.now.source) bytes.now) (λ p. place_numbers p ≡ sent_place (state_of S.factor_map self.now) bytes.now) result }
-        ensures named { IfErr result (NamesLackOf self.now.building.life (S.factor_map self.now.source) (roll_note (first_note bytes.now)).entry) }
+        ensures value { GivesSentPlace (state_of S.factor_map self.now) bytes.now result }
+        ensures named { IfErr result (NamesSentLack (state_of S.factor_map self.now) bytes.now) }
     {
         let sent = SentNote::read(bytes)?;
         Place::of(&sent, &self.building, &self.source)
@@ -63,7 +63,9 @@ impl<S: FactorSource> Sheet<S> {
     /// Writes a page by a cut into the first places, one for each of its headings, and answers the total. Fewer places are refused, and left as they are.
     pub fn page<C: Cut>(&self, cut: &C, figures: &mut [Figure]) -> Result<Figure, Refusal>
         ensures value { DrawsPage (state_of S.factor_map self.now) (C.assignment cut.now) figures.old result figures.new }
-        ensures law { (b : BuildingNumbers) (factor_map : FactorMap) (before : List Event) → History b factor_map before (state_of S.factor_map self.now) → IsLawful b factor_map (page_event (C.assignment cut.now) figures.old result figures.new ∷ before) }
+        ensures law {
+            KeepsLaw (state_of S.factor_map self.now) (page_event (C.assignment cut.now) figures.old result figures.new)
+        }
     {
         pages::write_page(self.book.totals(), cut, figures)
     }
@@ -71,7 +73,7 @@ impl<S: FactorSource> Sheet<S> {
     /// The highest grade that the building meets, if it meets one.
     pub fn grade(&self) -> Grade
         ensures value { GivesGrade (state_of S.factor_map self.now) (grade_number result) }
-        ensures law { (b : BuildingNumbers) (factor_map : FactorMap) (before : List Event) → History b factor_map before (state_of S.factor_map self.now) → IsLawful b factor_map (grade_event (grade_number result) ∷ before) }
+        ensures law { KeepsLaw (state_of S.factor_map self.now) (grade_event (grade_number result)) }
     {
         grades::grade(&self.building, self.book.totals())
     }

@@ -14,4 +14,4 @@ pub returns : goal.returns
 returns g c =
     let all = ap (map (λ bytes. bytes.now)) (take_all c.loop-bytes.bytes-index c.args.sends.now c.loop-bytes-test.false) in
     let calls = accounted c.loop-bytes.invariant all c.page-total.ensures.value c.grade.ensures.value in
-    record { history = calls; page = page_drawn calls; grade = grade_given calls }
+    record { calls = calls; page = page_drawn calls; award = grade_given calls }
