@@ -1,5 +1,5 @@
 -- What the entries of a feed are booked by: its building, and its own factors.
-use Rattle.std.specs.Prelude.{ℕ, List, [], ◌∷◌, Some, None, Ok, Err, vec_items, Option}
+use Rattle.std.specs.Prelude.{ℕ, List, [], ◌∷◌, Some, None, Ok, Err, vec_items, Option, Result}
 use Rattle.refusals.specs.declared.refusal.Refusal.{Refusal}
 use Rattle.domain.specs.declared.building.Building.{Building}
 use Rattle.domain.specs.declared.factor.FactorRow.{FactorRow}
@@ -8,12 +8,17 @@ use Rattle.feed.specs.Readings.{ReadsBuilding, ReadsFactorRow}
 use Rattle.factors.specs.Layers.{project_map}
 use Rattle.factors.specs.Maps.{FactorMap}
 use Rattle.listing.specs.declared.basis.BookingBasis.{BookingBasis}
+use Rattle.feed.specs.FactorRows.{ReadsEachRow}
 
 -- the factor rows that are read from notes; one that is refused is passed over
 pub data KeepsFitRows : List (List ℕ) → List FactorRow → Type 0 where
   none : KeepsFitRows [] []
   row : {note : List ℕ} {notes : List (List ℕ)} {r : FactorRow} {rows : List FactorRow} → ReadsFactorRow note (Ok r) → KeepsFitRows notes rows → KeepsFitRows (note ∷ notes) (r ∷ rows)
   passed : {note : List ℕ} {notes : List (List ℕ)} {rows : List FactorRow} (f : Refusal) → ReadsFactorRow note (Err f) → KeepsFitRows notes rows → KeepsFitRows (note ∷ notes) rows
+
+-- rows are those among the answers to reading notes as factor rows
+abbrev pub KeepsFitAnswers : List (Result FactorRow Refusal) → List FactorRow → Type 0
+KeepsFitAnswers answers rows = (notes : List (List ℕ)) → ReadsEachRow notes answers → KeepsFitRows notes rows
 
 -- a feed begins with a building, which is its first note, and the factor rows after it; or it has neither
 pub data BeginsWith (feed : List ℕ) : Option Building → List FactorRow → Type 0 where

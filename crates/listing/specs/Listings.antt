@@ -6,11 +6,17 @@ use Rattle.feed.specs.Frames.{IsFramed, IsOneNote}
 use Rattle.domain.specs.FieldTexts.{spaced_field}
 use Rattle.listing.specs.ListingLines.{IsLine}
 use Rattle.listing.specs.Bases.{Basis, BeginsWith, basis_with}
+use Rattle.feed.specs.Feeds.{part_bytes}
+use Rattle.feed.specs.declared.reader.Part.{Part}
 
 -- the line for what is left after the last note: nothing, or bytes of which it says why they are refused
 pub record IsLastLine (a : Basis) (k at : ℕ) (bs line : List ℕ) : Type 0 where
   pub none : bs ≡ [] → line ≡ codes "end" ++ (spaced_field (codes "at", at) ++ codes "\n")
   pub some : 0 < length bs → IsLine a k at bs line
+
+-- the last line, for the part of the feed that is left
+abbrev pub IsLastPartLine : Basis → Part → List ℕ → Type 0
+IsLastPartLine a p line = IsLastLine a p.place p.start (part_bytes p) line
 
 -- the listing, on a basis, of the bytes that stand at the place k, after `at` bytes of the feed: a line for each note, and the last line
 pub data Lists (a : Basis) : ℕ → ℕ → List ℕ → List ℕ → Type 0 where

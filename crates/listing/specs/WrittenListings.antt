@@ -3,6 +3,7 @@ use Rattle.std.specs.Prelude.{◌≡◌, ℕ, ◌<◌, ◌≤◌, List, ◌++◌
 use Rattle.refusals.specs.declared.refusal.Refusal.TheVariants.{FeedTooLong}
 use Rattle.refusals.specs.RefusalTexts.{refusal_text}
 use Rattle.listing.specs.Listings.{ListsFeed}
+use Rattle.feed.specs.Writing.{IsOnlyText}
 
 -- text is what is written for a feed: its listing, or, of a feed that is too long, one line with the refusal
 pub record ListsOrRefuses (feed text : List ℕ) : Type 0 where
@@ -12,4 +13,4 @@ pub record ListsOrRefuses (feed text : List ℕ) : Type 0 where
 -- text is what is written for a feed, and no other is
 pub record IsListing (feed text : List ℕ) : Type 0 where
   pub lists : ListsOrRefuses feed text
-  pub only : (other : List ℕ) → ListsOrRefuses feed other → other ≡ text
+  pub only : IsOnlyText (ListsOrRefuses feed) text

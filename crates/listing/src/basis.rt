@@ -1,7 +1,7 @@
 //! What the entries of a feed are booked by: the building and the factors that it opens with.
 ghost use Rattle.std.specs.Prelude.{IfOk, List, ℕ};
 ghost use Rattle.feed.specs.FactorRows.{ReadsEachRow};
-ghost use Rattle.listing.specs.Bases.{BeginsWith, KeepsFitRows};
+ghost use Rattle.listing.specs.Bases.{BeginsWith, KeepsFitRows, KeepsFitAnswers};
 
 use domain::{Building, FactorRow};
 use feed::{Opening, OpeningError};
@@ -38,7 +38,7 @@ fn fit_rows(
     heap: Global,
     answers: &[Result<FactorRow, Refusal>],
 ) -> Result<Vec<FactorRow>, AllocError>
-    ensures { IfOk result (λ rows. (notes : List (List ℕ)) → ReadsEachRow notes answers.now → KeepsFitRows notes rows.items) }
+    ensures { IfOk result (λ rows. KeepsFitAnswers answers.now rows.items) }
 {
     let mut rows = Vec::new(heap);
     for answer in answers {

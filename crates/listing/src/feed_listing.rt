@@ -1,7 +1,8 @@
 //! The listing of a whole feed.
 ghost use Rattle.std.specs.Prelude.{◌≡◌, ℕ, List, IfOk, string_bytes};
-ghost use Rattle.listing.specs.Listings.{IsLastLine, ListsFeed};
+ghost use Rattle.listing.specs.Listings.{IsLastLine, ListsFeed, IsLastPartLine};
 ghost use Rattle.listing.specs.Bases.{basis_of};
+ghost use Rattle.feed.specs.Writing.{IsOnlyText};
 
 use crate::basis::BookingBasis;
 use crate::listing_line::part_line;
@@ -11,7 +12,7 @@ use std::alloc::{AllocError, Global};
 /// A line for each note of the feed, and a last one that says how the feed ends.
 pub fn listing(heap: Global, feed: &[u8]) -> Result<String, AllocError>
     ensures value { IfOk result (λ s. ListsFeed feed.now (string_bytes s)) }
-    ensures only { IfOk result (λ s. (other : List ℕ) → ListsFeed feed.now other → other ≡ string_bytes s) }
+    ensures only { IfOk result (λ s. IsOnlyText (ListsFeed feed.now) (string_bytes s)) }
 {
     let basis = BookingBasis::read(heap, feed)?;
     let mut text = String::new(heap);
@@ -28,7 +29,7 @@ pub fn listing(heap: Global, feed: &[u8]) -> Result<String, AllocError>
 // The line for what is left of a feed where no note can be read any more. It takes the heap and the basis as `line` does:
 // a struct for the two would be no plainer.
 fn last_line(heap: Global, basis: &BookingBasis, left: &Part) -> Result<String, AllocError>
-    ensures { IfOk result (λ s. IsLastLine (basis_of basis.now) left.now.place left.now.start left.now.bytes.now (string_bytes s)) }
+    ensures { IfOk result (λ s. IsLastPartLine (basis_of basis.now) left.now (string_bytes s)) }
 {
     if left.bytes.is_empty() {
         let start = left.start;

@@ -2,6 +2,7 @@
 ghost use Rattle.std.specs.Prelude.{◌≡◌, ℕ, List, IfOk, string_bytes};
 ghost use Rattle.listing.specs.ListingLines.{IsPartLine};
 ghost use Rattle.listing.specs.Bases.{basis_of};
+ghost use Rattle.feed.specs.Writing.{IsOnlyText};
 
 use crate::basis::BookingBasis;
 use crate::statement::Statement;
@@ -11,7 +12,7 @@ use std::alloc::{AllocError, Global};
 /// The line for a part of a feed: what its first note says and is booked at, or by which number it is refused.
 pub fn part_line(heap: Global, basis: &BookingBasis, part: &Part) -> Result<String, AllocError>
     ensures value { IfOk result (λ s. IsPartLine (basis_of basis.now) part.now (string_bytes s)) }
-    ensures only { IfOk result (λ s. (other : List ℕ) → IsPartLine (basis_of basis.now) part.now other → other ≡ string_bytes s) }
+    ensures only { IfOk result (λ s. IsOnlyText (IsPartLine (basis_of basis.now) part.now) (string_bytes s)) }
 {
     let place = part.place;
     let start = part.start;

@@ -1,6 +1,6 @@
 //! The listing of what a reader has, written to a writer.
 ghost use Rattle.std.specs.Prelude.{IfOk, IfSome, OnOk, string_bytes};
-ghost use Rattle.feed.specs.Writing.{WritesText};
+ghost use Rattle.feed.specs.Writing.{WritesText, WritesFor};
 ghost use Rattle.listing.specs.WrittenListings.{ListsOrRefuses, IsListing};
 
 use crate::feed_listing::listing;
@@ -15,7 +15,7 @@ pub fn write_listing<R: Read + Drop, W: Write>(
     reader: R,
     writer: &mut W,
 ) -> io::Result<()>
-    ensures { OnOk result (IfSome (R.remaining reader) (λ feed. WritesText (IsListing feed) (W.contents writer.old) (W.contents writer.new))) }
+    ensures { OnOk result (WritesFor IsListing (R.remaining reader) (W.contents writer.old) (W.contents writer.new)) }
 {
     let feed = read_feed(heap, reader)?;
     let text = listing_or_refusal(heap, feed.as_slice())?;

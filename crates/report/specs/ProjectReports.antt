@@ -10,7 +10,7 @@ use Rattle.pages.specs.Cuts.{by_stage}
 use Rattle.sheet.specs.PageAndGrade.{SendsThenDraws, send_events}
 use Rattle.sheet.specs.Histories.{page_event, grade_event, History}
 use Rattle.sheet.specs.Laws.{IsLawfulPage, IsLawfulGrade}
-use Rattle.sheet.specs.States.{State}
+use Rattle.sheet.specs.States.{State, new_state}
 use Rattle.report.specs.Calls.{history_text}
 use Rattle.report.specs.ReportLines.{page_lines, grade_line}
 use Rattle.report.specs.Projects.{ProjectParts}
@@ -29,6 +29,11 @@ pub record SendsAll (b : BuildingNumbers) (factor_map : FactorMap) (bs : List �
   pub answers : map (λ a. a.0) answered ≡ reverse sends
   pub history : History b factor_map (send_events answered) t
   pub written : text ≡ history_text (send_events answered)
+
+-- the same from the sheet s on, where it was just opened
+abbrev pub SendsAllFrom : State → List ℕ → State → List ℕ → Type 0
+SendsAllFrom s bs t text =
+    (b : BuildingNumbers) (factor_map : FactorMap) → s ≡ new_state b factor_map → SendsAll b factor_map bs t text
 
 -- the account of a project is what is written of just these calls of its sheet: all is sent, then comes a page by stage, and then the grade
 pub record IsProjectReport (c : ProjectParts) (text : List ℕ) : Type 0 where

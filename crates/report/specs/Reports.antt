@@ -4,6 +4,7 @@ use Rattle.refusals.specs.declared.refusal.Refusal.{Refusal}
 use Rattle.report.specs.ProjectReports.{IsProjectReport, EndsLawfully}
 use Rattle.report.specs.ReportLines.{denied_line}
 use Rattle.report.specs.Projects.{ProjectParts, Opens}
+use Rattle.feed.specs.Writing.{IsOnlyText}
 
 -- text is what is written for a feed: the refusal before its notes, and nothing more, or the account of its project
 pub data IsReportText (feed text : List ℕ) : Type 0 where
@@ -17,5 +18,5 @@ IsLawfulReport feed text = (c : ProjectParts) → Opens feed (Ok c) → EndsLawf
 -- text is the report of a feed, no other is, and the law over histories holds of it
 pub record IsReport (feed text : List ℕ) : Type 0 where
   pub reports : IsReportText feed text
-  pub only : (other : List ℕ) → IsReportText feed other → other ≡ text
+  pub only : IsOnlyText (IsReportText feed) text
   pub law : IsLawfulReport feed text

@@ -2,7 +2,7 @@
 ghost use Rattle.std.specs.Prelude.{◌≡◌, IfOk, string_bytes};
 ghost use Rattle.factors.specs.Maps.{FactorMap};
 ghost use Rattle.domain.specs.declared.building.BuildingNumbers.{BuildingNumbers};
-ghost use Rattle.report.specs.ProjectReports.{SendsAll};
+ghost use Rattle.report.specs.ProjectReports.{SendsAll, SendsAllFrom};
 ghost use Rattle.report.specs.Calls.{WritesSend};
 ghost use Rattle.sheet.specs.States.{state_of, new_state};
 
@@ -19,7 +19,10 @@ pub(crate) fn send_all<S: FactorSource>(
     sheet: &mut Sheet<S>,
     notes: &[u8],
 ) -> Result<String, AllocError>
-    ensures { (b : BuildingNumbers) (factor_map : FactorMap) → state_of S.factor_map sheet.old ≡ new_state b factor_map → IfOk result (λ text. SendsAll b factor_map notes.now (state_of S.factor_map sheet.new) (string_bytes text)) }
+    ensures {
+        IfOk result (λ text. SendsAllFrom (state_of S.factor_map sheet.old) notes.now
+            (state_of S.factor_map sheet.new) (string_bytes text))
+    }
 {
     let mut text = String::new(heap);
     let mut reader = Reader::new(notes);
@@ -42,7 +45,10 @@ fn send<S: FactorSource>(
     sheet: &mut Sheet<S>,
     part: &Part,
 ) -> Result<String, AllocError>
-    ensures { IfOk result (λ text. WritesSend (state_of S.factor_map sheet.old) part.now.place part.now.bytes.now (state_of S.factor_map sheet.new) (string_bytes text)) }
+    ensures {
+        IfOk result (λ text. WritesSend (state_of S.factor_map sheet.old) part.now.place part.now.bytes.now
+            (state_of S.factor_map sheet.new) (string_bytes text))
+    }
 {
     match sheet.send(part.bytes) {
         Ok(()) => Ok(String::new(heap)),

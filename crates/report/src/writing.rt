@@ -1,6 +1,6 @@
 //! The report of what a reader has, written to a writer.
 ghost use Rattle.std.specs.Prelude.{IfSome, OnOk};
-ghost use Rattle.feed.specs.Writing.{WritesText};
+ghost use Rattle.feed.specs.Writing.{WritesText, WritesFor};
 ghost use Rattle.report.specs.Reports.{IsReport};
 
 use crate::feed_report::report;
@@ -14,7 +14,7 @@ pub fn write_report<R: Read + Drop, W: Write>(
     reader: R,
     writer: &mut W,
 ) -> io::Result<()>
-    ensures { OnOk result (IfSome (R.remaining reader) (λ feed. WritesText (IsReport feed) (W.contents writer.old) (W.contents writer.new))) }
+    ensures { OnOk result (WritesFor IsReport (R.remaining reader) (W.contents writer.old) (W.contents writer.new)) }
 {
     let feed = read_feed(heap, reader)?;
     let text = report(heap, feed.as_slice())?;
