@@ -1,4 +1,4 @@
--- What booking an entry answers, step by step.
+-- The result of booking an entry, step by step.
 use Rattle.std.proofs.Common.{◌≡◌, ℕ, [], ◌∷◌, true, false, true≢false, Err, pos, refl, sym, ap, ◌∙◌, subst, arith}
 use Rattle.exact.specs.Rounding.{rounded_quotient, IsWithinHalf}
 use Rattle.refusals.specs.declared.lack_codes.LackCodes.{LackCodes}
@@ -17,7 +17,7 @@ use Rattle.booking.specs.Emissions.{product, IsProductInRange, exact_divisor, Is
 use Rattle.booking.proofs.Kept.{grams_kept, grams_near}
 
 module _ (y : ℕ) (factor_map : FactorMap) (e : Entry) where
-  -- something that the entry says of itself fails, and a lack is none of that
+  -- where a condition on the entry alone fails, the refusal is the result; it is no lack
   pub itself_refused : (f : Refusal) → IsLeastFailing (own_conditions e) (refusal_number f) → Books y factor_map e (Err f)
   unfolding booking_conditions
   itself_refused f least = (
@@ -25,7 +25,7 @@ module _ (y : ℕ) (factor_map : FactorMap) (e : Entry) where
     λ lack. absurd (number_absent (own_conditions e) lack_number refl (subst (OneFails (own_conditions e)) lack least.0)),
   )
 
-  -- its source lacks its factor
+  -- where the source lacks the factor, the lack is the result
   pub factor_refused : AllHold (own_conditions e) → (l : LackCodes) → GivesFactor (factor y factor_map e) e.head.code (Err l) → Books y factor_map e (Err (FactorLacking l))
   unfolding booking_conditions
   factor_refused kept l lack = (
@@ -33,19 +33,19 @@ module _ (y : ℕ) (factor_map : FactorMap) (e : Entry) where
     λ _. (l.lacking, lack.1, ap (λ asked. asked ∷ l.lacking ∷ []) lack.0),
   )
 
--- the entry e is right in itself, stating s, and its source has the factor f
+-- the entry e keeps its own conditions, with the activity s, and its source has the factor f
 pub record AtFactor (y : ℕ) (factor_map : FactorMap) (e : Entry) (s : Activity) (f : FactorNumbers) : Type 0 where
   pub activity : AllHold (own_conditions e) × IsActivity y e s
   pub found : factor_map e.head.code ≡ has f
 
--- the entry e is right in all, and weighs g grams
+-- the entry e keeps all conditions, and its booked emissions are g grams
 pub record Calculated (y : ℕ) (factor_map : FactorMap) (e : Entry) (g : ℕ) : Type 0 where
   pub kept : AllHold (booking_conditions y factor_map e)
   pub grams : g ≡ (booked_line y factor_map e).grams
   pub range : IsLineGrams g
   pub near : IsWithinHalf (pos g) (exact_grams y factor_map e)
 
--- what is divided to give its grams, as the code has it
+-- the product, as the code computes it
 abbrev pub product_of : Activity → FactorNumbers → ℕ
 product_of s f = product s.thousandths f.amount s.terms.multiplier
 
@@ -53,7 +53,7 @@ module _ {y : ℕ} {factor_map : FactorMap} {e : Entry} {s : Activity} {f : Fact
   says : IsActivity y e s
   says = x.activity.1
 
-  -- what is asked in view of its factor fails, and its factor is not lacking
+  -- where a condition on its factor fails, other than its lack, the refusal is the result
   refuses : (r : Refusal) → (refusal_number r ≡ lack_number → ⊥) → IsLeastFailing (factor_conditions y factor_map e) (refusal_number r) → Books y factor_map e (Err r)
   unfolding booking_conditions
   refuses r other least = (least_on (own_conditions e) (factor_conditions y factor_map e) (refusal_number r) x.activity.0 least, λ lack. absurd (other lack))

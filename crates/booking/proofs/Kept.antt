@@ -1,4 +1,4 @@
--- What holds of an entry whose content is kept: the laws that what is built on bookings cites.
+-- What holds of an entry that is booked: the laws that other crates cite.
 use Rattle.std.proofs.Common.{pos, ℕ, ◌<◌, ◌≤◌, arith}
 use Rattle.exact.specs.Rounding.{HasDivisor, IsWithinHalf}
 use Rattle.exact.proofs.Nearness.{rounded_near, rounded_most}
@@ -13,12 +13,12 @@ use Rattle.booking.specs.Methods.{SpanFits, divisor}
 use Rattle.booking.specs.Rows.{IsRowNumber, method}
 use Rattle.booking.specs.Emissions.{max_grams, IsLineGrams}
 
--- a divisor is no more than the longest span
+-- the divisor is at least 1 and at most 100
 pub divisor_range : (k : CalculationMethod) (s : ℕ) → SpanFits k s → (0 < divisor k s) × (divisor k s ≤ 100)
 divisor_range k s fits = grind arith
 
 module _ (y : ℕ) (factor_map : FactorMap) (e : Entry) (kept : AllHold (booking_conditions y factor_map e)) where
-  -- its row is a row
+  -- its row exists
   pub row_kept : IsRowNumber e.head.row
   unfolding booking_conditions
   row_kept = hold_at (refusal_number UnknownRow) (booking_conditions y factor_map e) kept
@@ -31,11 +31,11 @@ module _ (y : ℕ) (factor_map : FactorMap) (e : Entry) (kept : AllHold (booking
   unfolding booking_conditions
   product_kept = hold_at (refusal_number TooLarge) (booking_conditions y factor_map e) kept
 
-  -- its exact grams are a number
+  -- the divisor of its exact grams is positive
   pub exact_divides : HasDivisor (exact_grams y factor_map e)
   exact_divides = omega (arith, divisor_range (method e.head.row) e.head.span span_kept)
 
-  -- its booked grams are in a line's range, and within half a gram of the exact ones
+  -- its booked grams are in the range of a line, and within half a gram of the exact ones
   pub grams_kept : IsLineGrams (booked_line y factor_map e).grams
   grams_kept = rounded_most (entry_product y factor_map e) (entry_divisor y factor_map e) max_grams exact_divides (omega (arith, product_kept, exact_divides))
 

@@ -1,4 +1,4 @@
--- Quantities: their ranges by the code's tests, and what is booked of them.
+-- Quantities: the tests of their ranges, and the thousandths that they are booked as.
 use Rattle.std.proofs.Common.{◌≡◌, ℕ, zero, suc, ◌+◌, ◌*◌, ◌<◌, ◌≤◌, ◌↔◌, true, false, ◌||◌, ◌&&◌, ltb, eqb, ℤ, pos, ◌*ℤ◌, nat_abs, Ok, Err, Result, IfOk, sym, refl, ap, ◌∙◌, subst, true≢false, arith}
 use lib.Ieee.{Float, nan, inf, fin, up, down, binary64, of_bits, is_nan, lt, le, eq}
 use lib.Ieee.Fits.{up_pos, down_pos}
@@ -14,12 +14,13 @@ use Rattle.domain.specs.declared.entry.Quantity.{Quantity}
 use Rattle.domain.specs.declared.entry.Quantity.TheVariants.{Counted, Measured}
 use Rattle.booking.specs.Quantities.{IsMeasuredInRange, measured_thousandths, IsQuantityInRange, exact_thousandths, booked_thousandths}
 
--- only zero is nothing times a power of two
+-- a number times a power of two is 0 only if the number is 0
 none : (m : ℕ) (e : ℤ) → m * up e ≡ 0 → m ≡ 0
 none zero e h = refl
 none (suc m) e h = absurd (omega (arith, up_pos e))
 
--- what `le` tests of two numbers that are not negative, of zero and a negative one, and of a negative one and a positive one
+-- what `le` tests: of two numbers that are not negative, of zero and a negative one, and of a negative and a positive
+-- one
 at_most : (a b : ℕ) → IsTrue (ltb a b || (eqb a b && true)) ↔ (a ≤ b)
 at_most a b = (λ t. grind (arith, nat_tests), λ l. grind (arith, nat_tests))
 
@@ -29,21 +30,21 @@ both_zero a b = (λ t. grind (arith, nat_tests), λ z. grind (arith, nat_tests))
 rises : (a b : ℕ) → 0 < b → IsTrue (ltb 0 (a + b) || (eqb a b && eqb a 0))
 rises a b l = grind (arith, nat_tests)
 
--- 0 and 1,000,000, as the code has them
+-- 0 and 1,000,000 as floating-point numbers
 abbrev least_measured : Float
 least_measured = of_bits binary64 0
 
 abbrev most_measured : Float
 most_measured = of_bits binary64 4696837146684686336
 
--- no NaN is in range
+-- a NaN is not in range
 pub nan_out : (x : Float) → is_nan x ≡ true → IsMeasuredInRange x → ⊥
 unfolding is_nan
 nan_out nan n r = r
 nan_out (inf s) n r = r
 nan_out (fin s m e) n r = absurd (true≢false (sym n))
 
--- both comparisons hold of a number in range, and of nothing else
+-- both comparisons hold exactly of the numbers in range
 pub passes : (x : Float) → IsTrue (le least_measured x) → IsTrue (le x most_measured) → IsMeasuredInRange x
 unfolding le lt eq of_bits
 passes nan l h = absurd (true≢false (sym l))
@@ -61,13 +62,13 @@ passed (fin true m e) r =
     ((both_zero (0 * down e) (m * up e * 1)).1 (omega arith, omega arith), rises (m * up e * 1) (1000000 * down e) (omega (arith, down_pos e)))
 passed (fin false m e) r = ((at_most (0 * down e) (m * up e * 1)).1 (omega arith), (at_most (m * up e * 1) (1000000 * down e)).1 (omega (arith, r.0)))
 
--- what is measured is a number
+-- the divisor of measured thousandths is positive
 pub divides : (x : Float) → HasDivisor (measured_thousandths x)
 divides nan = omega arith
 divides (inf s) = omega arith
 divides (fin s m e) = down_pos e
 
--- a quantity is booked within half a thousandth of what it is exactly
+-- booked thousandths are within a half of the exact ones
 pub booked_near : (q : Quantity) {t : ℕ} → t ≡ booked_thousandths q → IsWithinHalf (pos t) (exact_thousandths q)
 booked_near q is = subst (λ n. IsWithinHalf (pos n) (exact_thousandths q)) (sym is) (near q)
   where
@@ -77,12 +78,12 @@ booked_near q is = subst (λ n. IsWithinHalf (pos n) (exact_thousandths q)) (sym
     near (Measured (inf s)) = rounded_near 0 1 (omega arith)
     near (Measured (fin s m e)) = rounded_near (1000 * (m * up e)) (down e) (down_pos e)
 
--- and so is whatever is answered of it
+-- and so is every result
 pub gives_near : (q : Quantity) (r : Result ℕ Refusal) → GivesOrRefusesBy (IsQuantityInRange q) UnfitQuantity (λ t. t ≡ booked_thousandths q) r → IfOk r (λ t. IsWithinHalf (pos t) (exact_thousandths q))
 gives_near q (Ok t) activity = booked_near q activity.1
 gives_near q (Err f) activity = tt
 
--- a counted quantity is booked as it was counted
+-- a counted quantity is booked unchanged
 pub counted_is : (n : ℕ) → n ≡ booked_thousandths (Counted n)
 counted_is n =
     let whole : pos n *ℤ pos 1 ≡ pos n = omega (arith, ints) in

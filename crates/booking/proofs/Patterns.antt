@@ -1,4 +1,4 @@
--- What a binary64 number in range is by its digits.
+-- The value of a binary64 number in range, from the exponent and the digits in its bits.
 use Rattle.std.proofs.Common.{◌≡◌, ℕ, zero, suc, ◌+◌, ◌-◌, ◌*◌, ◌/◌, ◌%◌, ◌^◌, ◌<◌, ◌≤◌, Bool, true, false, cond, not, T, eqb, leb, pos, sym, ap, ◌∙◌, subst, ⊎_elim, mul-le-mul_right, mul-pos, arith, pow_mono}
 use native.Mathlib.Nat.{eq_of_mul-eq-mul_right}
 use lib.Ieee.{Float, nan, inf, fin, up, down, binary64, of_bits, to_bits, of_fields, odd, fits, is_nan}
@@ -12,19 +12,19 @@ use Rattle.std.proofs.lemmas.Nat.{pow_pos, pow-add}
 use Rattle.exact.specs.Rounding.{over, IsSame}
 use Rattle.booking.specs.Quantities.{IsMeasuredInRange, measured_thousandths}
 
--- a power of two that numerator and divisor share
+-- a common factor of numerator and divisor can be cancelled
 cancel : (x : Float) (s : Bool) (a p q : ℕ) → 0 < p → HasValue x s (a * p) (p * q) → HasValue x s a q
 cancel nan s a p q h v = v
 cancel (inf t) s a p q h v = v
 cancel (fin t m e) s a p q h v = (v.0, eq_of_mul-eq-mul_right p h (m * up e * q) (a * down e) (omega (arith, v.1)))
 
--- a thousand times a number that is t / c
+-- the thousandths of a number that is t / c
 thousand : (x : Float) (s : Bool) (t c : ℕ) → IsMeasuredInRange x → HasValue x s t c → IsSame (over (pos (t * 1000)) c) (measured_thousandths x)
 thousand nan s t c r v = absurd r
 thousand (inf n) s t c r v = absurd r
 thousand (fin n m e) s t c r v = ap pos (omega (arith, v.1))
 
--- a number in range is below 2^53 and more
+-- a number in range is not (2^52 + t) * p / c with p at least 2 * c, which is at least 2^53
 small : (x : Float) (s : Bool) (t p c : ℕ) → IsMeasuredInRange x → HasValue x s ((2 ^ 52 + t) * p) c → 2 * c ≤ p → 0 < c → ⊥
 small nan s t p c r v h z = absurd r
 small (inf n) s t p c r v h z = absurd r
@@ -32,15 +32,15 @@ small (fin n m e) s t p c r v h z =
     let d = down e in
     omega (arith, v.1, mul-le-mul_right c r.0, mul-le-mul_right d h, mul-pos z (down_pos e))
 
--- the number x has the exponent k and the digits t: where the exponent is 0, they have no leading one
+-- the number x has the exponent k and the digits t; where the exponent is 0, they have no leading 1
 pub record HasDigits (x : Float) (k t : ℕ) : Type 0 where
   pub bounded : k ≤ 1075
   pub least : k ≡ 0 → IsSame (over (pos (t * 1000)) (2 ^ 1074)) (measured_thousandths x)
   pub leading : 0 < k → IsSame (over (pos ((2 ^ 52 + t) * 1000)) (2 ^ (1075 - k))) (measured_thousandths x)
 
--- what a sign, an exponent and digits stand for
+-- the number that a sign, an exponent and digits stand for
 module _ (s : Bool) (t : ℕ) where
-  -- with an exponent above the smallest: the largest is no number's
+  -- with an exponent above 0; the largest exponent is that of infinities and of what is not a number
   abbrev standing_for : ℕ → Bool → Float
   standing_for j largest = cond largest (cond (eqb t 0) (inf s) nan) (odd 53 s (2 ^ 52 + t) j 1074)
 
@@ -70,14 +70,14 @@ module _ (s : Bool) (t : ℕ) where
       let exact = subst (λ n. IsSame (over (pos (a * 1000)) (2 ^ n)) (measured_thousandths x)) shift (thousand x s a (2 ^ (1074 - j)) r shared) in
       record { bounded = omega arith; least = λ none. absurd (omega arith); leading = λ _. exact }
 
--- the exponent and the digits of a number's bits
+-- the exponent and the digits in the bits of a number
 abbrev pub exponent : ℕ → ℕ
 exponent b = b % 2 ^ 63 / 2 ^ 52
 
 abbrev pub digits : ℕ → ℕ
 digits b = b % 2 ^ 63 % 2 ^ 52
 
--- a number in range by its own bits
+-- a number in range has the exponent and the digits of its bits
 pub by_bits : (x : Float) → IsTrue (fits binary64 x) → IsMeasuredInRange x → HasDigits x (exponent (to_bits binary64 x)) (digits (to_bits binary64 x))
 unfolding of_bits
 by_bits x held r =

@@ -1,4 +1,4 @@
--- A booking has one answer.
+-- Booking an entry has one result.
 use Rattle.std.proofs.Common.{◌≡◌, ℕ, Err, Result, sym, ◌∙◌, ⊎_elim}
 use Rattle.std.proofs.lemmas.Bool.Decides.{eqb_tells}
 use Rattle.factors.specs.Maps.{FactorMap}
@@ -16,7 +16,7 @@ module _ (y : ℕ) (factor_map : FactorMap) (e : Entry) where
       let is_booked = λ (l : BookedLine). line_numbers l ≡ booked_line y factor_map e in
       answer_unique (booking_conditions y factor_map e) is_booked is_booked (λ l m. line_numbers l ≡ line_numbers m) (λ l m is is'. is ∙ sym is') p q a.0 b.0
 
-  -- a lack is of one code, and no other refusal names any
+  -- two refusals of one entry with the same number name the same codes
   pub same_codes : (f g : Refusal) → refusal_number f ≡ refusal_number g → Books y factor_map e (Err f) → Books y factor_map e (Err g) → refusal_codes f ≡ refusal_codes g
   same_codes f g same a b =
       ⊎_elim (λ lack. let p = a.1 lack.1 in let q = b.1 (sym same ∙ lack.1) in cc (p.1, p.2, q.1, q.2))

@@ -1,4 +1,4 @@
--- What an entry comes to: why it is refused, its line, and its exact weight.
+-- Booking an entry: when it is refused, its exact emissions, and its booked line.
 use Rattle.std.specs.Prelude.{◌≡◌, ℕ, IsTrue, [], ◌∷◌, ◌++◌, pos, IfErr, Ok, Err, Result}
 use Rattle.exact.specs.Rounding.{Fraction, over, rounded_quotient, IsWithinHalf}
 use Rattle.refusals.specs.declared.lack_codes.LackCodes.{LackCodes}
@@ -16,11 +16,12 @@ use Rattle.booking.specs.Methods.{SpanFits, multiplier, divisor, unit_fits}
 use Rattle.booking.specs.Rows.{IsRowNumber, row_number, method}
 use Rattle.booking.specs.Emissions.{product, IsProductInRange, exact_divisor}
 
--- a code has a factor
+-- the answer is a factor
 abbrev pub HasFactor : FactorAnswer → Type 0
 HasFactor (has factor) = Unit {0}
 HasFactor (lacks code) = ⊥
 
+-- the amount and the unit of a factor; 0 of a lack
 abbrev pub amount_of : FactorAnswer → ℕ
 amount_of (has factor) = factor.amount
 amount_of (lacks code) = 0
@@ -29,16 +30,16 @@ abbrev pub unit_of : FactorAnswer → ℕ
 unit_of (has factor) = factor.unit
 unit_of (lacks code) = 0
 
--- what a source answers for the code c, and what is told of it
+-- the result for the code c: the factor that the source has, or both codes of its lack
 abbrev pub GivesFactor : FactorAnswer → ℕ → Result Factor LackCodes → Type 0
 GivesFactor answer c (Ok f) = answer ≡ has (factor_numbers f)
 GivesFactor answer c (Err l) = (l.asked ≡ c) × (answer ≡ lacks l.lacking)
 
--- a refusal for want of the factor of the code c names that code, and the one that is lacking
+-- a refusal that the factor of the code c is lacking names c and the code that the source lacks
 abbrev pub NamesLack : ℕ → FactorAnswer → Refusal → Type 0
 NamesLack c answer f = refusal_number f ≡ lack_number → (l : ℕ) × (answer ≡ lacks l) × (refusal_codes f ≡ c ∷ l ∷ [])
 
--- a line by its numbers
+-- the numbers of a booked line
 pub record LineNumbers : Type 0 where
   pub row : ℕ
   pub span : ℕ
@@ -49,7 +50,7 @@ pub record LineNumbers : Type 0 where
 abbrev pub line_numbers : BookedLine → LineNumbers
 line_numbers l = record { row = row_number l.row; span = l.span; code = l.code; thousandths = l.thousandths; grams = l.grams }
 
--- what is asked of what an entry says of itself
+-- the conditions that depend on the entry alone
 module _ (e : Entry) where
   abbrev pub row_condition : ℕ × Type 0
   row_condition = (refusal_number UnknownRow, IsRowNumber e.head.row)
@@ -63,7 +64,7 @@ module _ (e : Entry) where
   abbrev pub own_conditions : Conditions
   own_conditions = row_condition ∷ span_condition ∷ quantity_condition ∷ []
 
--- s is what the entry e says of itself, in a building with a life of y years
+-- s is the activity of the entry e, in a building with a life of y years
 pub record IsActivity (y : ℕ) (e : Entry) (s : Activity) : Type 0 where
   pub row_is : row_number s.row ≡ e.head.row
   pub method_is : s.method ≡ method e.head.row
@@ -71,19 +72,19 @@ pub record IsActivity (y : ℕ) (e : Entry) (s : Activity) : Type 0 where
   pub divides : s.terms.divisor ≡ divisor (method e.head.row) e.head.span
   pub counts : s.thousandths ≡ booked_thousandths e.quantity
 
--- an entry in a building with a life of y years, at the factors of a map
+-- an entry in a building with a life of y years, with the factors of a map
 module _ (y : ℕ) (factor_map : FactorMap) (e : Entry) where
   abbrev pub factor : FactorAnswer
   factor = factor_map e.head.code
 
-  -- what is divided to give its grams
+  -- its exact emissions are this product over this divisor
   abbrev pub entry_product : ℕ
   entry_product = product (booked_thousandths e.quantity) (amount_of factor) (multiplier (method e.head.row) y e.head.span)
 
   abbrev pub entry_divisor : ℕ
   entry_divisor = exact_divisor (divisor (method e.head.row) e.head.span)
 
-  -- what is asked in view of its factor
+  -- the conditions that depend on its factor too
   abbrev pub factor_condition : ℕ × Type 0
   factor_condition = (lack_number, HasFactor factor)
 
@@ -96,11 +97,11 @@ module _ (y : ℕ) (factor_map : FactorMap) (e : Entry) where
   abbrev pub factor_conditions : Conditions
   factor_conditions = factor_condition ∷ unit_condition ∷ product_condition ∷ []
 
-  -- what is asked of its content
+  -- all conditions for booking it
   unfoldable pub booking_conditions : Conditions
   booking_conditions = own_conditions e ++ factor_conditions
 
-  -- its exact weight in grams, of its booked thousandths
+  -- its exact emissions in grams, from its booked thousandths
   abbrev pub exact_grams : Fraction
   exact_grams = over (pos entry_product) entry_divisor
 
@@ -108,10 +109,10 @@ module _ (y : ℕ) (factor_map : FactorMap) (e : Entry) where
   abbrev pub IsNearExact : BookedLine → Type 0
   IsNearExact line = IsWithinHalf (pos line.grams) exact_grams
 
-  -- its line: the nearest gram of its exact emissions
+  -- its line, with the grams nearest to its exact emissions
   abbrev pub booked_line : LineNumbers
   booked_line = record { row = e.head.row; span = e.head.span; code = e.head.code; thousandths = booked_thousandths e.quantity; grams = rounded_quotient entry_product entry_divisor }
 
-  -- r is what booking it answers
+  -- r is the result of booking it
   abbrev pub Books : Result BookedLine Refusal → Type 0
   Books r = GivesOrRefuses booking_conditions (λ line. line_numbers line ≡ booked_line) r × IfErr r (NamesLack e.head.code factor)

@@ -1,4 +1,4 @@
--- What thousandths of a unit weigh at tenths of a gram for each unit.
+-- The emissions of thousandths of a unit, at tenths of a gram per unit.
 use Rattle.std.specs.Prelude.{ℕ, ◌*◌, ◌≤◌, Bool, if◌then◌else◌, ℤ, pos, neg_ℤ, ◌≡◌, Result}
 use Rattle.refusals.specs.declared.refusal.Refusal.{Refusal}
 use Rattle.refusals.specs.declared.refusal.Refusal.TheVariants.{TooLarge}
@@ -6,24 +6,25 @@ use Rattle.refusals.specs.Refusals.{GivesOrRefusesBy}
 use Rattle.booking.specs.declared.method.Terms.{Terms}
 use Rattle.exact.specs.Rounding.{rounded_quotient}
 
--- what is divided to give grams: q thousandths, at the amount f, m times
+-- the emissions before they are divided: q thousandths, at the amount f, m times
 abbrev pub product : ℕ → ℕ → ℕ → ℕ
 product q f m = q * f * m
 
 abbrev pub IsProductInRange : ℕ → Type 0
 IsProductInRange w = w ≤ 1000000000000000000
 
+-- what the product is divided by to give grams
 abbrev pub exact_divisor : ℕ → ℕ
 exact_divisor d = 10000 * d
 
--- the most grams of a product in range: it is divided by 10,000 at least
+-- the most grams of a product in range, which is divided by at least 10,000
 abbrev pub max_grams : ℕ
 max_grams = 100000000000000
 
 abbrev pub IsLineGrams : ℕ → Type 0
 IsLineGrams g = g ≤ max_grams
 
--- grams as they count
+-- grams with the sign by which they count in a sum
 abbrev pub signed_grams : Bool → ℕ → ℤ
 signed_grams subtracted g = if subtracted then neg_ℤ (pos g) else pos g
 

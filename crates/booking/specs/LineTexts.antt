@@ -1,11 +1,11 @@
--- Booked lines in words.
+-- The text of a booked line.
 use Rattle.std.specs.Prelude.{ℕ, List, ◌++◌, codes, decimal}
 use Rattle.std.specs.Fmt.{signed_decimal}
 use Rattle.booking.specs.declared.line.BookedLine.{BookedLine}
 use Rattle.booking.specs.Rows.{row_number, is_subtracted}
 use Rattle.booking.specs.Emissions.{signed_grams}
 
--- a line's thousandths, and its grams as they count
+-- the thousandths of a line, and its grams with their sign
 abbrev pub line_text : BookedLine → List ℕ
 line_text line =
     codes "thousandths=" ++ (decimal line.thousandths ++ (codes " grams=" ++ signed_decimal (signed_grams (is_subtracted (row_number line.row)) line.grams)))

@@ -1,4 +1,4 @@
--- The ways of reckoning: y is the building's life in years, s an entry's span.
+-- The calculation methods: y is the building's life in years, and s the span of an entry.
 use Rattle.std.specs.Prelude.{ℕ, ◌/◌, Bool, not, ◌==◌, ◌≡◌, Result}
 use Rattle.domain.specs.Ranges.{IsBetween}
 use Rattle.booking.specs.declared.method.CalculationMethod.{CalculationMethod}
@@ -8,7 +8,7 @@ use Rattle.refusals.specs.declared.refusal.Refusal.TheVariants.{UnfitSpan}
 use Rattle.refusals.specs.Refusals.{GivesOrRefusesBy}
 use Rattle.booking.specs.declared.method.Terms.{Terms}
 
--- up to 10,000 kilometres, 1 to 100 years, or none
+-- the span is up to 10,000 kilometres, 1 to 100 years, or 0
 abbrev pub SpanFits : CalculationMethod → ℕ → Type 0
 SpanFits OneOff s = IsBetween 0 s 0
 SpanFits DistanceBased s = IsBetween 0 s 10000
@@ -16,7 +16,8 @@ SpanFits Annual s = IsBetween 0 s 0
 SpanFits Replacement s = IsBetween 1 s 100
 SpanFits Leakage s = IsBetween 1 s 100
 
--- what an entry is multiplied by: its kilometres, or how often it comes in the building's life; a part that is renewed comes a whole number of times
+-- what an entry is multiplied by: 1, its kilometres, the building's life, or the number of replacements, without its
+-- fraction
 abbrev pub multiplier : CalculationMethod → ℕ → ℕ → ℕ
 multiplier OneOff y s = 1
 multiplier DistanceBased y s = s
@@ -24,12 +25,12 @@ multiplier Annual y s = y
 multiplier Replacement y s = y / s
 multiplier Leakage y s = y
 
--- and what it is divided by
+-- what it is divided by: the years of the equipment, or 1
 abbrev pub divisor : CalculationMethod → ℕ → ℕ
 divisor Leakage s = s
 divisor k s = 1
 
--- tonne-kilometres (5) for what is hauled and for nothing else, kilograms (4) for what is refilled
+-- tonne-kilometres (5) fit distances and nothing else, and kilograms (4) alone fit leakage
 abbrev pub unit_fits : CalculationMethod → ℕ → Bool
 unit_fits DistanceBased u = u == 5
 unit_fits Leakage u = u == 4

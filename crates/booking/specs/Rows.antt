@@ -1,4 +1,4 @@
--- The twenty-two rows, by their numbers.
+-- The 22 rows by their numbers: their stages, their signs and their calculation methods.
 use Rattle.std.specs.Prelude.{ℕ, Bool, if◌then◌else◌, ◌&&◌, ◌||◌, ◌==◌, nat_le}
 use Rattle.domain.specs.Ranges.{IsBetween}
 use Rattle.booking.specs.declared.method.CalculationMethod.{CalculationMethod}
@@ -41,15 +41,15 @@ stage_number B = 2
 stage_number C = 3
 stage_number D = 4
 
--- stage 1 has the rows 1 and 2, stage 2 those up to 10, stage 3 those up to 21, and stage 4 the last
+-- stage 1 has rows 1 and 2, stage 2 rows 3 to 10, stage 3 rows 11 to 21, and stage 4 row 22
 abbrev pub stage : ℕ → ℕ
 stage row = if nat_le row 2 then 1 else (if nat_le row 10 then 2 else (if nat_le row 21 then 3 else 4))
 
--- renewables on site and in use, and the sink
+-- the rows that are subtracted: renewables on site and in use, and the sink
 abbrev pub is_subtracted : ℕ → Bool
 is_subtracted row = row == 9 || (row == 19 || row == 20)
 
--- haulage is reckoned by distance; what is used is reckoned by the year, but for renewal, refurbishment and refrigerant
+-- haulage is calculated by distance, and use by the year, apart from renewal, refurbishment and refrigerant
 abbrev pub method : ℕ → CalculationMethod
 method row =
     if row == 2 || row == 8 then DistanceBased

@@ -1,19 +1,21 @@
-//! Booking: what an entry comes to in a building, at the factors of a source.
+//! Booking an entry in a building, with the factors of a source.
 ghost use Rattle.std.specs.Prelude.{pos, IfOk};
 ghost use Rattle.exact.specs.Rounding.{IsWithinHalf};
 ghost use Rattle.refusals.specs.Refusals.{GivesOrRefuses};
 ghost use Rattle.booking.specs.Booking.{own_conditions, IsActivity, exact_grams, Books, GivesFactor, IsNearExact};
 
-use crate::line::BookedLine;
-use crate::quantity::thousandths;
-use crate::method::{CalculationMethod, Terms};
-use crate::row::Row;
 use crate::emissions::grams;
+use crate::line::BookedLine;
+use crate::method::{CalculationMethod, Terms};
+use crate::quantity::thousandths;
+use crate::row::Row;
 use domain::{Building, Entry, Factor};
 use factors::FactorSource;
 use refusals::{LackCodes, Refusal};
 
-/// The line of an entry, or why it is refused. The source is asked once, and only for an entry that passes what comes before.
+/// Books an entry: returns its line, whose grams are nearest to the exact emissions. Refused by `UnknownRow` (5),
+/// `UnfitSpan` (6), `UnfitQuantity` (7), `FactorLacking` (8), `UnfitUnit` (9) or `TooLarge` (10). The source is asked
+/// once, and not at all where the entry is refused by 5, 6 or 7.
 pub fn book<S: FactorSource>(
     building: &Building,
     source: &S,
@@ -38,7 +40,7 @@ pub fn book<S: FactorSource>(
     })
 }
 
-// What an entry says of itself, in the terms that it is booked by.
+// The data of an entry that its emissions are calculated from, apart from its factor.
 #[derive(Clone, Copy)]
 struct Activity {
     row: Row,
@@ -47,7 +49,7 @@ struct Activity {
     thousandths: u64,
 }
 
-// Judges whatever an entry says of itself, in a building with a life of these years: no factor is asked for.
+// Checks all that needs no factor, for a building with a life of these years.
 fn activity_of(years: u16, entry: &Entry) -> Result<Activity, Refusal>
     ensures { GivesOrRefuses (own_conditions entry.now) (IsActivity years entry.now) result }
 {
@@ -64,7 +66,7 @@ fn activity_of(years: u16, entry: &Entry) -> Result<Activity, Refusal>
     })
 }
 
-// The factor of a code, or the code that was asked for and the one that is lacking.
+// The factor of a code, or the codes of a lack.
 fn ask<S: FactorSource>(source: &S, code: u32) -> Result<Factor, LackCodes>
     ensures { GivesFactor (S.factor_map source.now code) code result }
 {

@@ -1,4 +1,4 @@
-//! What a quantity at a factor weighs.
+//! The emissions of a quantity at a factor, in whole grams.
 ghost use Rattle.std.specs.Prelude.{◌≡◌, ◌<◌, ◌≤◌};
 ghost use Rattle.exact.specs.Rounding.{rounded_quotient};
 ghost use Rattle.booking.specs.Emissions.{product, IsProductInRange, exact_divisor, GivesGrams};
@@ -12,10 +12,11 @@ use refusals::Refusal;
 
 const MAX_PRODUCT: u64 = 1_000_000_000_000_000_000;
 
-// Thousandths of a unit at tenths of a gram: so many of them are a gram.
+// A gram is 10,000 thousandths of a unit at a tenth of a gram per unit.
 const PER_GRAM: u32 = 10_000;
 
-// The grams nearest to the exact weight, if the product is not too large. It is divided once, last, so that nothing is rounded on the way.
+// The grams nearest to the exact emissions, if the product is not too large. The only division comes last, so that
+// nothing is rounded on the way.
 pub(crate) fn grams(thousandths: u64, factor: Factor, terms: Terms) -> Result<u64, Refusal>
     requires thousandths { thousandths ≤ 1000000000 }
     requires divisor { (0 < terms.divisor) × (terms.divisor ≤ 100) }

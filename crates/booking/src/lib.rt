@@ -1,18 +1,18 @@
-//! What an entry weighs: its row's rule, its quantity and its factor, booked in whole grams.
+//! Booking: the emissions of an entry in whole grams, by the rule of its row, its quantity and its factor.
 #![tactic(auto)]
 
 mod booking;
+mod emissions;
 mod line;
 mod measured;
-mod quantity;
 mod method;
+mod quantity;
 mod row;
 mod rules;
-mod emissions;
 
 pub use booking::book;
 pub use line::BookedLine;
-pub use quantity::thousandths;
 pub use method::{CalculationMethod, Terms};
+pub use quantity::thousandths;
 pub use row::Row;
 pub use rules::{Rule, Stage};

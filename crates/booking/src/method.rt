@@ -1,4 +1,4 @@
-//! How rows reckon: what they ask of a span and of a unit, and what an entry is multiplied and divided by.
+//! The calculation methods: which spans and units they take, and what an entry is multiplied and divided by.
 ghost use Rattle.std.specs.Prelude.{◌≡◌};
 ghost use Rattle.domain.specs.Numbers.{unit_number};
 ghost use Rattle.booking.specs.Methods.{SpanFits, multiplier, divisor, unit_fits, GivesTerms};
@@ -12,29 +12,35 @@ const MAX_KILOMETRES: u16 = 10_000;
 
 const MAX_YEARS: u16 = 100;
 
+/// How the emissions of a row are calculated. The meaning and the range of an entry's span depend on it.
 #[derive(Clone, Copy, Debug, PartialEq, Eq)]
 pub enum CalculationMethod {
-    /// What comes once. It has no span.
+    /// The quantity is the whole amount. The span is 0.
     OneOff,
-    /// What is carried: the span is in kilometres.
+    /// The quantity is carried. The span is the distance in kilometres, 0 to 10,000.
     DistanceBased,
-    /// What comes every year of the building's life. It has no span.
+    /// The quantity is the amount of a year, and counts for every year of the building's life. The span is 0.
     Annual,
-    /// What is put in again each time it has served its years: the span is those years.
+    /// The quantity is the amount of one replacement, which comes each time the part has served its years. The span is
+    /// those years, 1 to 100.
     Replacement,
-    /// What leaks out of equipment and is filled up again, its charge over the equipment's years: the span is those years.
+    /// The quantity is the charge of equipment, which leaks out and is refilled once over the equipment's years. The
+    /// span is those years, 1 to 100. After the national standard for a building's carbon.
     Leakage,
 }
 
-/// An entry counts `multiplier` times, and is divided by `divisor`.
+/// What the quantity of an entry is multiplied and divided by.
 #[derive(Clone, Copy, Debug, PartialEq, Eq)]
 pub struct Terms {
+    /// How many times the quantity counts: 1, the kilometres, the building's life in years, or the whole number of
+    /// replacements in it.
     pub multiplier: u16,
+    /// The years of the equipment for `Leakage`, and 1 otherwise.
     pub divisor: u16,
 }
 
 impl CalculationMethod {
-    /// How an entry with this span counts in a building of these years, if the span fits.
+    /// The terms of an entry with this span, in a building with a life of these years. Refused by `UnfitSpan` (6).
     pub fn terms(self, years: u16, span: u16) -> Result<Terms, Refusal>
         ensures { GivesTerms self years span result }
     {
@@ -52,6 +58,8 @@ impl CalculationMethod {
         })
     }
 
+    /// Whether a factor per this unit fits: `DistanceBased` takes tonne-kilometres, `Leakage` kilograms, and the others
+    /// any unit but tonne-kilometres.
     pub fn unit_fits(self, unit: FactorUnit) -> bool
         ensures { result ≡ unit_fits self (unit_number unit) }
     {

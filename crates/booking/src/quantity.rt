@@ -1,4 +1,4 @@
-//! The thousandths that are booked of a quantity.
+//! The thousandths that a quantity is booked as.
 ghost use Rattle.std.specs.Prelude.{◌≡◌, pos, IfOk};
 ghost use Rattle.domain.specs.declared.entry.Quantity.TheVariants.{Counted, Measured};
 ghost use Rattle.exact.specs.Rounding.{IsWithinHalf};
@@ -12,7 +12,9 @@ use refusals::Refusal;
 
 const MAX_COUNTED: u64 = 1_000_000_000;
 
-/// As counted, or the nearest to what was measured, if the quantity is in range.
+/// The booked thousandths of a unit, at most 1,000,000,000: those of a counted quantity unchanged, and those nearest to
+/// a measured one, a half going up. Refused by `UnfitQuantity` (7) if the quantity is above 1,000,000 units, negative
+/// or not a number.
 pub fn thousandths(quantity: Quantity) -> Result<u64, Refusal>
     ensures value { BooksThousandths quantity result }
     ensures near { IfOk result (λ t. IsWithinHalf (pos t) (exact_thousandths quantity)) }

@@ -1,5 +1,5 @@
-//! The rows of a sheet: what an entry can be for.
-//! Their conversions are written out, since an `impl` that a macro writes can promise nothing.
+//! The rows: what an entry can be for.
+//! Their conversions are written out, since an `impl` that a macro writes can have no contract.
 ghost use Rattle.std.specs.Prelude.{◌≡◌, ◌-◌};
 ghost use Rattle.booking.specs.Rows.{IsRowNumber, row_number};
 ghost use Rattle.refusals.specs.declared.refusal.Refusal.TheVariants.{UnknownRow};
@@ -7,34 +7,57 @@ ghost use Rattle.refusals.specs.Refusals.{Decodes};
 
 use refusals::Refusal;
 
+/// What an entry is for. The rows and their numbers, 1 to 22, are drawn up after the accounting draft.
 #[derive(Clone, Copy, Debug, PartialEq, Eq)]
 pub enum Row {
+    /// Production of material and equipment.
     Production = 1,
+    /// Haulage to the site.
     Haulage = 2,
+    /// Energy of machines on site.
     MachineEnergy = 3,
+    /// Water of machines on site.
     MachineWater = 4,
+    /// Energy of the site office.
     OfficeEnergy = 5,
+    /// Water of the site office.
     OfficeWater = 6,
+    /// Temporary material.
     TemporaryMaterial = 7,
+    /// Haulage of rubbish.
     RubbishHaulage = 8,
+    /// Renewables on site. Subtracted.
     SiteRenewables = 9,
+    /// Other gases that escape on site. Apart from `Refrigerant`, so that no gas is counted in both stages.
     SiteGases = 10,
+    /// Energy of equipment, burnt in the building.
     EquipmentEnergyBurnt = 11,
+    /// Energy of equipment, bought.
     EquipmentEnergyBought = 12,
+    /// Water in use.
     Water = 13,
+    /// Energy of users, burnt in the building.
     UserEnergyBurnt = 14,
+    /// Energy of users, bought.
     UserEnergyBought = 15,
+    /// Upkeep.
     Upkeep = 16,
+    /// Renewal of parts that have served their years.
     Renewal = 17,
+    /// Refurbishment.
     Refurbishment = 18,
+    /// Renewables in use. Subtracted.
     Renewables = 19,
+    /// What planting takes up. Subtracted.
     Sink = 20,
+    /// Refrigerant that escapes in use.
     Refrigerant = 21,
+    /// Demolition.
     Demolition = 22,
 }
 
 impl Row {
-    /// Every row, in the order of their numbers.
+    /// All rows, in the order of their numbers.
     pub const ALL: [Row; 22] = [
         Row::Production,
         Row::Haulage,
@@ -60,7 +83,7 @@ impl Row {
         Row::Demolition,
     ];
 
-    /// Where it stands among all of them, from 0.
+    /// The index of the row in `ALL`.
     pub fn index(self) -> usize
         ensures { result ≡ row_number self - 1 }
     {
@@ -68,6 +91,7 @@ impl Row {
     }
 }
 
+/// Refused by `UnknownRow` (5) if no row has the number.
 impl TryFrom<u16> for Row {
     type Error = Refusal;
 

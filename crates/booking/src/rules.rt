@@ -1,27 +1,36 @@
-//! All that is said of each row: its stage, whether it is subtracted, and how it reckons.
+//! The rule of each row: its stage, its sign and its calculation method.
 ghost use Rattle.std.specs.Prelude.{◌≡◌};
 ghost use Rattle.booking.specs.Rows.{row_number, stage_number, stage, is_subtracted, method};
 
 use crate::method::CalculationMethod;
 use crate::row::Row;
 
-/// The parts of a building's life: what is made and brought (A), built (B), used (C) and taken down (D).
+/// A stage of a building's life.
 #[derive(Clone, Copy, Debug, PartialEq, Eq)]
 pub enum Stage {
+    /// Production of material and equipment, and haulage to the site.
     A = 1,
+    /// Building.
     B = 2,
+    /// Use.
     C = 3,
+    /// Demolition.
     D = 4,
 }
 
+/// The rule that the entries of a row follow.
 #[derive(Clone, Copy, Debug, PartialEq, Eq)]
 pub struct Rule {
+    /// The stage that the row belongs to.
     pub stage: Stage,
+    /// Whether its emissions are subtracted in a sum.
     pub subtracted: bool,
+    /// How its emissions are calculated.
     pub method: CalculationMethod,
 }
 
 impl Row {
+    /// The rule of the row. Its sign is that of the accounting draft.
     pub fn rule(self) -> Rule
         ensures stage { stage_number result.stage ≡ stage (row_number self) }
         ensures sign { result.subtracted ≡ is_subtracted (row_number self) }

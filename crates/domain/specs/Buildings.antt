@@ -1,9 +1,10 @@
--- Buildings by their numbers, and the ranges of these.
+-- The numbers of a building, and their ranges.
 use Rattle.domain.specs.declared.building.Building.{Building}
 use Rattle.domain.specs.declared.building.BuildingNumbers.{BuildingNumbers}
 use Rattle.domain.specs.Numbers.{region_number, type_number}
 use Rattle.domain.specs.Ranges.{IsArea, IsLife, IsRegionNumber, IsSunClass, IsTypeNumber, IsReference}
 
+-- every number of a building is in its range
 pub record IsBuildingInRange (b : BuildingNumbers) : Type 0 where
   pub area : IsArea b.area
   pub life : IsLife b.life
@@ -12,7 +13,7 @@ pub record IsBuildingInRange (b : BuildingNumbers) : Type 0 where
   pub building_type : IsTypeNumber b.building_type
   pub reference : IsReference b.reference
 
--- a building by its numbers
+-- the numbers of a building
 abbrev pub numbers_of : Building → BuildingNumbers
 numbers_of b = record {
   area = b.area;

@@ -1,21 +1,22 @@
--- Fields in words.
+-- The text of named fields, and of a building and a factor row.
 use Rattle.std.specs.Prelude.{ℕ, List, [], ◌∷◌, ◌++◌, codes, decimal}
 use Rattle.domain.specs.declared.building.BuildingNumbers.{BuildingNumbers}
 use Rattle.domain.specs.declared.entry.EntryHead.{EntryHead}
 use Rattle.domain.specs.declared.factor.FactorRow.{FactorRow}
 
--- a field's name and its value
+-- the name and the value of a field
 abbrev pub NamedField : Type 0
 NamedField = List ℕ × ℕ
 
+-- a field as `name=value`
 abbrev pub field_text : NamedField → List ℕ
 field_text f = f.0 ++ (codes "=" ++ decimal f.1)
 
--- a field after a space
+-- a space, and then a field
 abbrev pub spaced_field : NamedField → List ℕ
 spaced_field f = codes " " ++ field_text f
 
--- fields by name, with a space between one and the next
+-- fields with a space between each two
 abbrev pub fields_text : List NamedField → List ℕ
 fields_text [] = []
 fields_text (f ∷ []) = field_text f
@@ -32,7 +33,7 @@ row_fields row = (codes "code", row.code) ∷ (codes "amount", row.factor.amount
 abbrev pub head_fields : EntryHead → List NamedField
 head_fields e = (codes "row", e.row) ∷ (codes "span", e.span) ∷ (codes "code", e.code) ∷ []
 
--- a building and a factor row in words
+-- the kind and the fields of a building, and of a factor row
 abbrev pub building_text : BuildingNumbers → List ℕ
 building_text b = codes "building " ++ fields_text (building_fields b)
 

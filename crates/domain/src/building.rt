@@ -1,4 +1,4 @@
-//! A building: its climate, its type, its size and its years.
+//! A building: its area, its life, its climate, its type and its reference intensity.
 ghost use Rattle.std.specs.Prelude.{◌≡◌, Some};
 ghost use Rattle.domain.specs.Ranges.{IsArea, IsLife, IsSunClass, IsReference};
 
@@ -15,19 +15,23 @@ const MAX_SUN_CLASS: u16 = 4;
 
 const MAX_REFERENCE: u16 = 10_000;
 
-/// Every building that exists keeps these ranges.
+/// The building that a sheet accounts for. Every building that exists has its numbers in range.
 #[derive(Clone, Copy, Debug, PartialEq, Eq)]
 pub struct Building {
-    /// in tenths of a square metre
+    /// The area in tenths of a square metre, 1 to 100,000,000.
     pub area: u32,
-    /// in years
+    /// The life of the building in years, 1 to 100.
     pub life: u16,
+    /// The climate that it stands in.
     pub region: Region,
-    /// the class of solar irradiation where it stands: a number, as the classes have no names
+    /// The class of solar irradiation where it stands, 1 to 4 for the classes I to IV of the zero-carbon draft. A
+    /// number, since the classes have no names.
     pub sun: u16,
+    /// What it is used for.
     pub building_type: BuildingType,
-    /// the reference intensity, in tenths of a kilogram per square metre and year; 0 where there is none: the field's range
-    /// has the 0, and an `Option` would only say it another way
+    /// The reference intensity, which is that of the zero-carbon draft's baseline for a building of the same form and
+    /// use: tenths of a kilogram per square metre and year, 0 to 10,000, and 0 where there is none. No `Option`, since
+    /// the range of the field in a feed includes the 0.
     pub reference: u16,
     ghost area_within: { IsArea area },
     ghost life_within: { IsLife life },
@@ -35,18 +39,24 @@ pub struct Building {
     ghost reference_within: { IsReference reference },
 }
 
-/// The numbers of a building as they came: any of them may be out of range or have no name.
+/// The numbers of a building as they were received: any of them may be out of range.
 #[derive(Clone, Copy, Debug, PartialEq, Eq)]
 pub struct BuildingNumbers {
+    /// The area in tenths of a square metre.
     pub area: u32,
+    /// The life of the building in years.
     pub life: u16,
+    /// The number of its region.
     pub region: u16,
+    /// The class of solar irradiation.
     pub sun: u16,
+    /// The number of its type.
     pub building_type: u16,
+    /// The reference intensity in tenths of a kilogram per square metre and year.
     pub reference: u16,
 }
 
-// The building of these numbers, if each is in range.
+/// Refused by `OutOfRange` (4) unless every number is in its range.
 impl TryFrom<BuildingNumbers> for Building {
     ghost use Rattle.domain.specs.Buildings.{numbers_of, IsBuildingInRange};
     ghost use Rattle.refusals.specs.declared.refusal.Refusal.TheVariants.{OutOfRange};

@@ -1,25 +1,30 @@
-//! An entry: how much of something, by which factor, in which row of a sheet.
+//! An entry: how much of something, by which factor, in which row of the accounts.
 
-/// What an entry says before its quantity. None of its numbers is judged here.
+/// The fields of an entry before its quantity, as they were received: booking checks them.
 #[derive(Clone, Copy, Debug, PartialEq, Eq)]
 pub struct EntryHead {
-    /// a number, as it may be of no row that there is
+    /// The number of a row. It may be of no row that exists.
     pub row: u16,
+    /// Kilometres or years, where the row asks for them.
     pub span: u16,
+    /// The code of the factor, any number.
     pub code: u32,
 }
 
-/// How much of something an entry is for.
+/// How much of something an entry is for. Booking checks the range.
 #[derive(Clone, Copy, Debug, PartialEq)]
 pub enum Quantity {
-    /// in whole thousandths of a unit
+    /// A whole number of thousandths of a unit.
     Counted(u64),
-    /// in units
+    /// A number of units.
     Measured(f64),
 }
 
+/// An entry in the form in which it is booked.
 #[derive(Clone, Copy, Debug, PartialEq)]
 pub struct Entry {
+    /// Its row, span and code.
     pub head: EntryHead,
+    /// How much it is for.
     pub quantity: Quantity,
 }

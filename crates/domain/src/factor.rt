@@ -1,4 +1,4 @@
-//! A factor: how much carbon one unit of something stands for.
+//! A factor: the emissions of one unit of something.
 ghost use Rattle.std.specs.Prelude.{◌≡◌, Some};
 ghost use Rattle.domain.specs.Ranges.{IsAmount};
 
@@ -8,30 +8,35 @@ use std::fmt;
 
 const MAX_AMOUNT: u32 = 1_000_000_000;
 
-/// Every factor that exists keeps its range.
+/// The emissions of one unit of something. Every factor that exists has its amount in range.
 #[derive(Clone, Copy, Debug, PartialEq, Eq)]
 pub struct Factor {
-    /// in tenths of a gram of carbon dioxide equivalent
+    /// Tenths of a gram of carbon dioxide equivalent per unit, 0 to 1,000,000,000.
     pub amount: u32,
+    /// The unit that the amount is per.
     pub unit: FactorUnit,
     ghost amount_within: { IsAmount amount },
 }
 
-/// The numbers of a factor as they came: its amount may be out of range, and its unit a number that has no name.
+/// The numbers of a factor as they were received: either of them may be out of range.
 #[derive(Clone, Copy, Debug, PartialEq, Eq)]
 pub struct FactorNumbers {
+    /// Tenths of a gram of carbon dioxide equivalent per unit.
     pub amount: u32,
+    /// The number of a unit.
     pub unit: u16,
 }
 
-/// A row of a list of factors, as it came.
+/// A row of a list of factors, as it was received. It gives a factor only if its numbers are in range.
 #[derive(Clone, Copy, Debug, PartialEq, Eq)]
 pub struct FactorRow {
+    /// The code that entries name the factor by, any number.
     pub code: u32,
+    /// The numbers of its factor.
     pub factor: FactorNumbers,
 }
 
-// The factor of these numbers, if each is in range.
+/// Refused by `OutOfRange` (4) unless both numbers are in range.
 impl TryFrom<FactorNumbers> for Factor {
     ghost use Rattle.domain.specs.Factors.{factor_numbers, IsFactorInRange};
     ghost use Rattle.refusals.specs.declared.refusal.Refusal.TheVariants.{OutOfRange};

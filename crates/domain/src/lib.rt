@@ -1,5 +1,5 @@
-//! What a sheet is about, apart from any format: buildings, factors, quantities and entries, with their numbers and ranges.
-//! Each conversion of a number is written out, since an `impl` that a macro writes can promise nothing.
+//! What a sheet is about, apart from any format: buildings, factors, quantities and entries, with their numbers and
+//! ranges. Conversions are written out one by one, since an `impl` that a macro writes can have no contract.
 #![tactic(auto)]
 
 mod building;

@@ -1,4 +1,4 @@
-//! The climates, by their numbers in a feed.
+//! The climates that buildings stand in, with their numbers in a feed.
 ghost use Rattle.std.specs.Prelude.{◌≡◌};
 ghost use Rattle.domain.specs.Numbers.{region_number};
 ghost use Rattle.domain.specs.Ranges.{IsRegionNumber};
@@ -7,16 +7,22 @@ ghost use Rattle.refusals.specs.Refusals.{Decodes};
 
 use refusals::Refusal;
 
-/// The climate that a building stands in.
+/// The climate that a building stands in. Its number in a feed is 1 to 5.
 #[derive(Clone, Copy, Debug, PartialEq, Eq)]
 pub enum Region {
+    /// Severe cold.
     SevereCold = 1,
+    /// Cold.
     Cold = 2,
+    /// Hot summers and cold winters.
     HotSummerColdWinter = 3,
+    /// Hot summers and warm winters.
     HotSummerWarmWinter = 4,
+    /// Mild.
     Mild = 5,
 }
 
+/// Refused by `OutOfRange` (4) if no region has the number.
 impl TryFrom<u16> for Region {
     type Error = Refusal;
 

@@ -1,4 +1,4 @@
-//! What buildings are for, by the numbers in a feed.
+//! The types of buildings, with their numbers in a feed.
 ghost use Rattle.std.specs.Prelude.{◌≡◌};
 ghost use Rattle.domain.specs.Numbers.{type_number};
 ghost use Rattle.domain.specs.Ranges.{IsTypeNumber};
@@ -7,19 +7,28 @@ ghost use Rattle.refusals.specs.Refusals.{Decodes};
 
 use refusals::Refusal;
 
-/// What a building is for.
+/// What a building is used for. Its number in a feed is 1 to 8.
 #[derive(Clone, Copy, Debug, PartialEq, Eq)]
 pub enum BuildingType {
+    /// A residential building.
     Residential = 1,
+    /// A small office building.
     SmallOffice = 2,
+    /// A large office building.
     LargeOffice = 3,
+    /// A small hotel.
     SmallHotel = 4,
+    /// A large hotel.
     LargeHotel = 5,
+    /// A shopping centre.
     Shop = 6,
+    /// The block of a hospital for treatment and laboratories.
     Hospital = 7,
+    /// The teaching building of a school.
     School = 8,
 }
 
+/// Refused by `OutOfRange` (4) if no type has the number.
 impl TryFrom<u16> for BuildingType {
     type Error = Refusal;
 

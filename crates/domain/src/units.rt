@@ -1,4 +1,4 @@
-//! What factors are per, by the numbers in a feed.
+//! The units that factors are per, with their numbers in a feed.
 ghost use Rattle.std.specs.Prelude.{◌≡◌};
 ghost use Rattle.domain.specs.Numbers.{unit_number};
 ghost use Rattle.domain.specs.Ranges.{IsUnitNumber};
@@ -7,18 +7,26 @@ ghost use Rattle.refusals.specs.Refusals.{Decodes};
 
 use refusals::Refusal;
 
-/// What a factor's amount is per.
+/// The unit that the amount of a factor is per. Its number in a feed is 1 to 7.
 #[derive(Clone, Copy, Debug, PartialEq, Eq)]
 pub enum FactorUnit {
+    /// Per tonne.
     Tonne = 1,
+    /// Per cubic metre.
     CubicMetre = 2,
+    /// Per kilowatt-hour.
     KilowattHour = 3,
+    /// Per kilogram.
     Kilogram = 4,
+    /// Per tonne carried one kilometre.
     TonneKilometre = 5,
+    /// Per piece.
     Piece = 6,
+    /// Per square metre.
     SquareMetre = 7,
 }
 
+/// Refused by `OutOfRange` (4) if no unit has the number.
 impl TryFrom<u16> for FactorUnit {
     type Error = Refusal;
 

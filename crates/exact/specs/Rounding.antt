@@ -1,16 +1,17 @@
--- Rounding: the whole number nearest to an exact one.
+-- Rounding: the whole number nearest to a fraction, and the laws that it keeps.
 use Rattle.std.specs.Prelude.{◌≡◌, ℕ, ◌*◌, ◌<◌, ℤ, pos, ◌+ℤ◌, ◌*ℤ◌, ◌≤ℤ◌, unsigned_abs}
 use Rattle.std.specs.Int.Signed.{shr_z}
 
--- an exact number: a fraction of whole numbers
+-- an exact number, as a fraction of whole numbers
 pub record Fraction : Type 0 where
   pub numerator : ℤ
   pub divisor : ℕ
 
+-- the fraction n / d
 abbrev pub over : ℤ → ℕ → Fraction
 over n d = record { numerator = n; divisor = d }
 
--- its divisor is positive
+-- the divisor of x is positive
 abbrev pub HasDivisor : Fraction → Type 0
 HasDivisor x = 0 < x.divisor
 
@@ -18,7 +19,7 @@ HasDivisor x = 0 < x.divisor
 abbrev pub IsNoLarger : Fraction → Fraction → Type 0
 IsNoLarger x y = (x.numerator *ℤ pos y.divisor) ≤ℤ (y.numerator *ℤ pos x.divisor)
 
--- they are the same number
+-- x and y are the same number, perhaps with different divisors
 abbrev pub IsSame : Fraction → Fraction → Type 0
 IsSame x y = x.numerator *ℤ pos y.divisor ≡ y.numerator *ℤ pos x.divisor
 
@@ -27,24 +28,25 @@ pub record IsWithinHalf (r : ℤ) (x : Fraction) : Type 0 where
   pub least : (pos 2 *ℤ (r *ℤ pos x.divisor)) ≤ℤ (pos 2 *ℤ x.numerator +ℤ pos x.divisor)
   pub most : (pos 2 *ℤ x.numerator) ≤ℤ (pos 2 *ℤ (r *ℤ pos x.divisor) +ℤ pos x.divisor)
 
--- x is just a half above the whole number r
+-- x is exactly a half above the whole number r
 abbrev pub IsHalfAbove : ℤ → Fraction → Type 0
 IsHalfAbove r x = pos 2 *ℤ x.numerator ≡ pos 2 *ℤ (r *ℤ pos x.divisor) +ℤ pos x.divisor
 
--- r is the whole number nearest to x, and the upper one of two
+-- r is the whole number nearest to x, or the upper one where two are equally near
 pub record IsNearest (r : ℤ) (x : Fraction) : Type 0 where
   pub near : IsWithinHalf r x
   pub upper : IsHalfAbove r x → ⊥
 
--- the whole number nearest to x, a half going up: x and a half, rounded down
+-- the whole number nearest to x, a half going up: x plus a half, rounded down
 unfoldable pub nearest_whole : Fraction → ℤ
 nearest_whole x = shr_z (pos 2 *ℤ x.numerator +ℤ pos x.divisor) (2 * x.divisor)
 
--- the same of a fraction of natural numbers
+-- the natural number nearest to n / d, a half going up
 abbrev pub rounded_quotient : ℕ → ℕ → ℕ
 rounded_quotient n d = unsigned_abs (nearest_whole (over (pos n) d))
 
--- the laws of rounding
+-- the laws of rounding: only the nearest number is given, a whole number stays as it is, and a larger fraction never
+-- gives a smaller number
 pub record IsRounding (round : Fraction → ℤ) : Type 0 where
   pub is_nearest : (x : Fraction) → HasDivisor x → IsNearest (round x) x
   pub only : (x : Fraction) (r : ℤ) → HasDivisor x → IsNearest r x → r ≡ round x

@@ -4,23 +4,27 @@ ghost use Rattle.exact.specs.Rounding.{nearest_whole, over};
 
 use crate::rounding;
 
-/// The numerator divided by 2 to the power of the shift. No `Ratio`, whose divisor has 32 bits: this one's may be 2 to the
-/// power of 1074. No `PartialEq`, for one number may be written with many shifts.
+/// The fraction `numerator / 2^shift`.
+///
+/// Not a `Ratio`, since the divisor of a measured quantity may be as large as 2^1074. No `PartialEq`, since one number
+/// can be written with many shifts.
 #[derive(Clone, Copy, Debug)]
 pub struct Binary {
+    /// The numerator, below 2^63.
     pub numerator: u64,
+    /// The exponent of the divisor, any number.
     pub shift: u32,
     ghost fits: { numerator < 2 ^ 63 },
 }
 
 impl Binary {
-    /// The nearest whole number, a half going up.
+    /// Rounds to the nearest whole number, a half going up.
     pub fn round(self) -> u64
         ensures { pos result ≡ nearest_whole (over (pos self.numerator) (2 ^ self.shift)) }
     {
         let numerator = self.numerator;
         let shift = self.shift;
-        // Less than a half is left of 63 bits that are shifted by more.
+        // The numerator is below 2^63, so after a larger shift less than a half is left.
         if shift > 63 {
             return 0;
         }

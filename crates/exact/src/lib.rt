@@ -1,4 +1,4 @@
-//! Exact fractions, and the one rounding that whatever is booked or printed goes through.
+//! Exact fractions, and the one rounding that every booked or printed figure goes through.
 #![tactic(auto)]
 
 mod binary;

@@ -1,24 +1,26 @@
-//! A fraction of whole numbers, and the whole number nearest to it.
+//! A fraction of two whole numbers, and the whole number nearest to it.
 ghost use Rattle.std.specs.Prelude.{◌≡◌, ◌<◌};
 ghost use Rattle.exact.specs.Rounding.{nearest_whole, over, IsRounding};
 
 use crate::rounding;
 
-/// No `PartialEq`: one half is 1/2, and 2/4 too.
+/// The fraction `numerator / divisor`. No `PartialEq`, since one half is both 1/2 and 2/4.
 #[derive(Clone, Copy, Debug)]
 pub struct Ratio {
+    /// The numerator, any number.
     pub numerator: i64,
+    /// The divisor, above 0.
     pub divisor: u32,
     ghost divides: { 0 < divisor },
 }
 
 impl Ratio {
-    /// The nearest whole number, a half going up.
+    /// Rounds to the nearest whole number, a half going up, also below zero: -1/2 gives 0.
     pub fn round(self) -> i64
         ensures value { result ≡ nearest_whole (over self.numerator self.divisor) }
         ensures laws { IsRounding nearest_whole }
     {
-        // Rounded down, also below zero, so that what is left is never negative.
+        // Euclidean division rounds down, also below zero, so the rest is never negative.
         let divisor = i64::from(self.divisor);
         let whole = self.numerator.div_euclid(divisor);
         let rest = self.numerator.rem_euclid(divisor);

@@ -1,18 +1,18 @@
--- The built-in factors.
+-- The map of the built-in factors.
 use Rattle.std.specs.Prelude.{ℕ, ◌-◌, ◌*◌, if◌then◌else◌, List, [], ◌∷◌, length, ◌==◌, nat_lt, slice_index}
 use Rattle.domain.specs.declared.factor.FactorNumbers.{FactorNumbers}
 use Rattle.factors.specs.Maps.{FactorMap, has, lacks}
 
--- the warming of each refrigerant, as a multiple of carbon dioxide's
+-- the global warming potentials of the refrigerants, as multiples of that of carbon dioxide
 abbrev pub warming_potentials : List ℕ
 warming_potentials =
     3500 ∷ 1430 ∷ 4470 ∷ 124 ∷ 3220 ∷ 14800 ∷ 1340 ∷ 1370 ∷ 9810 ∷ 693 ∷ 1030 ∷ 675 ∷ 794 ∷ 92 ∷ 1640 ∷ []
 
--- a factor of so much, per unit of this number
+-- a factor of this amount, per unit of this number
 abbrev pub factor_per : (amount unit : ℕ) → FactorNumbers
 factor_per amount unit = record { amount = amount; unit = unit }
 
--- grid electricity (1) in kilowatt-hours (3), and from 101 on the refrigerants in kilograms (4)
+-- grid electricity (1) per kilowatt-hour (3), and from 101 on the refrigerants per kilogram (4)
 abbrev pub built_in_map : FactorMap
 built_in_map c =
     if c == 1 then has (factor_per 5000 3)

@@ -1,4 +1,4 @@
--- What a lack says in words.
+-- The text of a lack.
 use Rattle.std.specs.Prelude.{ℕ, List, ◌++◌, codes, decimal}
 
 -- the code that is lacking

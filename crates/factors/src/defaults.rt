@@ -1,4 +1,4 @@
-//! The built-in factors where a source has none.
+//! The source that adds the built-in factors to another source.
 ghost use Rattle.factors.specs.Layers.{defaults_map};
 
 use crate::lack::Lack;
@@ -6,15 +6,17 @@ use crate::source::FactorSource;
 use crate::table::BuiltIn;
 use domain::Factor;
 
+/// The source below, and the built-in table for the codes that it lacks. Where the table lacks the code too, the lack
+/// is that of the source below.
 #[derive(Clone, Copy, Debug, Drop, PartialEq, Eq)]
 pub struct Defaults<S> {
+    /// The source that is asked first.
     pub below: S,
 }
 
 impl<S: FactorSource> FactorSource for Defaults<S> {
     ghost factor_map = { λ s. defaults_map (S.factor_map s.below) };
 
-    // Where both lack the code, it is the source below that says what is lacking.
     fn factor(&self, code: u32) -> Result<Factor, Lack> {
         self.below
             .factor(code)

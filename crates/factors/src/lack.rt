@@ -1,13 +1,15 @@
-//! What a source answers where it has no factor.
+//! The error of a source that has no factor for a code.
 ghost use Rattle.std.specs.Prelude.{Some};
 ghost use Rattle.factors.specs.LackTexts.{lack_text};
 
 use std::error::Error;
 use std::fmt;
 
-/// The code that is lacking. It need not be the one that was asked for: a source may answer by the factor of another code.
+/// A code without a factor. It need not be the one that was asked for, since a source may need the factor of another
+/// code to answer.
 #[derive(Clone, Copy, Debug, PartialEq, Eq)]
 pub struct Lack {
+    /// The code that is lacking.
     pub code: u32,
 }
 

@@ -1,4 +1,4 @@
-//! Factors by their codes: what a source of them is, and the sources that the sheet is used with.
+//! Sources of factors: the trait, and the sources that a sheet is used with.
 #![tactic(auto)]
 
 mod defaults;

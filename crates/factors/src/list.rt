@@ -1,4 +1,4 @@
-//! A project's own factors.
+//! A project's own list of factors, as a source.
 ghost use Rattle.std.specs.Prelude.{◌≡◌, option_map};
 ghost use Rattle.domain.specs.Factors.{factor_numbers};
 ghost use Rattle.factors.specs.Lists.{list_map, row_factor};
@@ -7,9 +7,11 @@ use crate::lack::Lack;
 use crate::source::FactorSource;
 use domain::{Factor, FactorRow};
 
-/// Rows in the caller's memory. The first that is in range and has the code answers.
+/// The rows of a project's own list. The first row that has the code and is in range gives the factor; rows out of
+/// range are passed over. Where there is none, the code that was asked for is lacking.
 #[derive(Clone, Copy, Debug, PartialEq, Eq)]
 pub struct ProjectList<'a> {
+    /// The rows, in the order in which they are searched.
     pub rows: &'a [FactorRow],
 }
 

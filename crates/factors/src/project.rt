@@ -1,4 +1,4 @@
-//! The factors of a project.
+//! The source that the programs use for a project.
 ghost use Rattle.factors.specs.Layers.{project_map};
 
 use crate::defaults::Defaults;
@@ -8,9 +8,11 @@ use crate::recycled::Recycled;
 use crate::source::FactorSource;
 use domain::{Factor, FactorRow};
 
-/// Recycled material, over the built-in factors, over the rows of the project's own list.
+/// The factors of a project: `Recycled` over `Defaults` over the `ProjectList` of these rows. A row under the code of a
+/// recycled material is never used.
 #[derive(Clone, Copy, Debug, PartialEq, Eq)]
 pub struct ProjectFactors<'a> {
+    /// The rows of the project's own list.
     pub rows: &'a [FactorRow],
 }
 

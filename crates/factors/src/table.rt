@@ -1,4 +1,4 @@
-//! The built-in table: grid electricity and the refrigerants.
+//! The source of the built-in factors: grid electricity and refrigerants.
 ghost use Rattle.factors.specs.BuiltIn.{built_in_map};
 
 use crate::lack::Lack;
@@ -7,15 +7,16 @@ use domain::{Factor, FactorUnit};
 
 const ELECTRICITY: u32 = 1;
 
-// tenths of a gram per kilowatt-hour
+// Tenths of a gram per kilowatt-hour, after the zero-carbon draft.
 const ELECTRICITY_AMOUNT: u32 = 5_000;
 
 const FIRST_REFRIGERANT: u32 = 101;
 
-// A kilogram of carbon dioxide in tenths of a gram.
+// A kilogram of carbon dioxide, in tenths of a gram.
 const KILOGRAM: u32 = 10_000;
 
-// The global warming potential of each refrigerant, from code 101 on: how many times as much as carbon dioxide it warms.
+// The global warming potentials of the refrigerants, as multiples of that of carbon dioxide, after the accounting
+// draft. Their codes count up from 101.
 const WARMING_POTENTIALS: [u32; 15] = [
     3_500, // R-125
     1_430, // R-134a
@@ -34,6 +35,8 @@ const WARMING_POTENTIALS: [u32; 15] = [
     1_640, // R-43-10mee
 ];
 
+/// The built-in factors: code 1 is grid electricity, after the zero-carbon draft, and the codes 101 to 115 are
+/// refrigerants per kilogram, after the accounting draft. Any other code is lacking.
 #[derive(Clone, Copy, Debug, PartialEq, Eq)]
 pub struct BuiltIn;
 

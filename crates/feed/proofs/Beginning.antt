@@ -1,4 +1,4 @@
--- What bytes begin with: their first note, which is read or refused, and what is left after it.
+-- The first note of bytes, whether read or refused, and what is left after it.
 use Rattle.std.proofs.Common.{◌≡◌, ℕ, List, length, Some, None, Ok, Err, Result, sym, ap, ◌∙◌, subst, arith}
 use Rattle.domain.specs.declared.building.Building.{Building}
 use Rattle.domain.specs.declared.factor.FactorRow.{FactorRow}
@@ -15,7 +15,7 @@ use Rattle.feed.proofs.Running.{hands_left}
 use Rattle.refusals.specs.declared.refusal.Refusal.{Refusal}
 use Rattle.refusals.proofs.Deciding.{SameAnswer, answer_unique}
 
--- reading a building has one answer, and so has reading a factor row
+-- reading a building has one result, and so has reading a factor row
 pub building_once : (bs : List ℕ) (r s : Result Building Refusal) → ReadsBuilding bs r → ReadsBuilding bs s → SameAnswer (λ b c. numbers_of b ≡ numbers_of c) r s
 building_once bs = answer_unique (reading_conditions (λ kind. kind ≡ BuildingNote) bs) (IsBuilding (first_note bs)) (IsBuilding (first_note bs)) (λ b c. numbers_of b ≡ numbers_of c) (λ b c is is'. is ∙ sym is')
 

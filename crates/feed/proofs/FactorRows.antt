@@ -1,4 +1,4 @@
--- The notes of factor rows that bytes begin with: there is one list of them, and a reader hands them out.
+-- The factor rows that bytes begin with: there is one list of them, and a reader hands them out.
 use Rattle.std.proofs.Common.{◌≡◌, ℕ, ◌+◌, List, [], ◌∷◌, ◌++◌, Some, None, Ok, Result, sym, refl, subst, append-nil}
 use Rattle.refusals.specs.declared.refusal.Refusal.{Refusal}
 use Rattle.domain.specs.declared.factor.FactorRow.{FactorRow}
@@ -19,13 +19,13 @@ rows_only bs notes notes' left left' (row first more) (ended other) = absurd (ot
 rows_only bs notes notes' left left' (ended other) (row first more) = absurd (other first)
 rows_only bs notes notes' left left' (ended other) (ended other') = (refl, refl)
 
--- what reading the factor rows answers that bytes begin with, before what is left
+-- reading the factor rows that bs begins with gives these results, and this is left after them
 pub record RowsAnswered (left : List ℕ) (bs : List ℕ) (answers : List (Result FactorRow Refusal)) : Type 0 where
   pub notes : List (List ℕ)
   pub rows : StartsWithRows bs notes left
   pub read : ReadsEachRow notes answers
 
--- a reader of the feed has handed out rows since it was `start`, and these were answered
+-- the reader r was `start` and has handed out factor rows since, with these results of reading them
 pub record RowsSoFar (feed : List ℕ) (start r : Reader) (answers : List (Result FactorRow Refusal)) : Type 0 where
   pub calls : List ReaderAnswer
   pub history : ReaderHistory feed calls r

@@ -9,18 +9,18 @@ use Rattle.feed.specs.Kinds.{kind_of_note, IsOfKind}
 use Rattle.feed.specs.Readings.{framing_conditions, form_conditions, Reads}
 use Rattle.feed.proofs.Framing.{one_first, framed_one, first_one}
 
--- what first_note gives has a length and a kind
+-- the first note has at least the four bytes of its length and its kind
 pub headed : {bs note : List ℕ} → IsFramed bs → note ≡ first_note bs → 4 ≤ length note
 headed {bs} framed is = omega (arith, (one_first bs framed).head, ap length is)
 
 module _ {X : Type 0} (Wanted : Kind → Type 0) (Value : List ℕ → X → Type 0) (bs : List ℕ) where
-  -- what is answered to the first note of framed bytes, is answered to the bytes
+  -- the result for the first note of framed bytes is the result for the bytes
   pub reads_note : (r : Result X Refusal) {note : List ℕ} {kind : Kind} → IsFramed bs → note ≡ first_note bs → IsOfKind kind note → GivesOrRefuses (form_conditions Wanted (Some kind) note) (Value note) r → Reads Wanted Value bs r
   reads_note r {note} {kind} framed is of decided =
       gives_after (Value (first_note bs)) (framing_conditions bs) (form_conditions Wanted (kind_of_note (first_note bs)) (first_note bs)) (framed, tt) r
       (subst (λ n. GivesOrRefuses (form_conditions Wanted (kind_of_note n) n) (Value n) r) is (subst (λ k. GivesOrRefuses (form_conditions Wanted k note) (Value note) r) (sym of) decided))
 
-  -- a note by itself is read as it is in front of other bytes
+  -- reading the first note alone gives the same as reading it in front of other bytes
   pub reads_alone : (r : Result X Refusal) → Reads Wanted Value bs r → IsFramed bs → Reads Wanted Value (first_note bs) r
   reads_alone r reads framed =
       let one = one_first bs framed in

@@ -1,4 +1,4 @@
--- All answers of one reader: the law over its calls.
+-- The law over all calls of one reader.
 use Rattle.std.proofs.Common.{◌≡◌, ℕ, ◌+◌, List, [], ◌∷◌, ◌++◌, length, drop, Some, None, Ok, Err, sym, refl, ap, ◌∙◌, subst, append_assoc, arith, length-append}
 use Rattle.std.proofs.lemmas.List.{flat_map_more, drop-drop, length_push}
 use Rattle.std.proofs.lemmas.List.Elements.{All-push}
@@ -10,11 +10,11 @@ use Rattle.feed.specs.Feeds.{ReaderAnswer, part_bytes, rest_of, HandsOut, Stays,
 use Rattle.feed.specs.Frames.{IsOneNote, rest_after_first}
 use Rattle.feed.proofs.Framing.{one_first, first_whole}
 
--- after a note is handed out, what comes after it is left
+-- after a note is handed out, what comes after it in the feed is left
 pub hands_left : (r : Reader) (p : Part) (t : Reader) → HandsOut r p t → rest_of t ≡ rest_after_first (rest_of r)
 hands_left r p t step = rw (step.bytes, step.over) (sym (drop-drop (length (part_bytes p)) r.start r.feed.now) ∙ ap (λ note. drop (length note) (rest_of r)) step.note)
 
--- the note that is handed out is what comes next in the feed
+-- the note that is handed out, followed by what is left then, is what was left before
 pub hands_next : (r : Reader) (p : Part) (t : Reader) → HandsOut r p t → part_bytes p ++ rest_of t ≡ rest_of r
 hands_next r p t step = rw (hands_left r p t step, step.note) (first_whole (rest_of r) step.framed)
 
@@ -29,7 +29,7 @@ consecutive_push k at [] p placed place start = (omega arith, omega arith, tt)
 consecutive_push k at (q ∷ ps) p placed place start =
     (placed.0, placed.1, consecutive_push (k + 1) (at + length (part_bytes q)) ps p placed.2 (omega arith) (omega (arith, length-append (part_bytes q) (flat_map part_bytes ps))))
 
--- the answers of a reader so far: what has become of the feed
+-- what holds of the results of a reader so far
 record SoFar (feed : List ℕ) (answers : List ReaderAnswer) (r : Reader) : Type 0 where
   whole : flat_map part_bytes (handed_parts answers) ++ rest_of r ≡ feed
   bytes : r.start ≡ length (flat_map part_bytes (handed_parts answers))
@@ -39,7 +39,7 @@ record SoFar (feed : List ℕ) (answers : List ReaderAnswer) (r : Reader) : Type
   again : IsRepeated answers
   ends : EndsTruly answers (rest_of r)
 
--- where there is no note, there is none at the next call
+-- where a call returned no note, the next call returns the same
 same_again : (r t : Reader) (a b : ReaderAnswer) → IsSpent b (rest_of r) → AnswersNext r a t → a ≡ b
 same_again r t a (Ok (Some p)) spent step = absurd spent
 same_again r t (Ok (Some q)) (Ok None) spent step = let e = ap length spent in absurd (omega (arith, step.framed.head))
@@ -57,7 +57,7 @@ module _ (feed : List ℕ) where
   again_more (Err f ∷ before) r t a old step = (same_again r t a (Err f) old.ends step, old.again)
 
   module _ (answers : List ReaderAnswer) (r t : Reader) (old : SoFar feed answers r) where
-    -- an answer that is no note leaves everything as it was
+    -- a result that is no note leaves the reader as it was
     stays : (a : ReaderAnswer) → handed_parts (a ∷ answers) ≡ handed_parts answers → IsRepeated (a ∷ answers) → EndsTruly (a ∷ answers) (rest_of r) → Stays r t → SoFar feed (a ∷ answers) t
     stays a same again ends stay =
         let left = stays_left r t stay in
@@ -100,6 +100,6 @@ module _ (feed : List ℕ) where
       let all = so_far answers r history in
       record { whole = all.whole; notes = all.notes; places = all.places; again = all.again; ends = all.ends }
 
--- one call more of a reader
+-- the law holds after one more call of the reader
 pub lawful_call : (r : Reader) (a : ReaderAnswer) (t : Reader) → AnswersNext r a t → (feed : List ℕ) (before : List ReaderAnswer) → ReaderHistory feed before r → IsLawfulReader feed (a ∷ before) (rest_of t)
 lawful_call r a t step feed before history = lawful feed (a ∷ before) t (called history step)

@@ -1,10 +1,11 @@
--- The numbers of a building: where they lie in its note.
+-- The numbers of a building, by their offsets in its note.
 use Rattle.std.specs.Prelude.{◌≡◌, ℕ, List}
 use Rattle.domain.specs.declared.building.Building.{Building}
 use Rattle.domain.specs.declared.building.BuildingNumbers.{BuildingNumbers}
 use Rattle.domain.specs.Buildings.{numbers_of}
 use Rattle.feed.specs.Fields.{field}
 
+-- the numbers in the note of a building
 abbrev pub building_of_note : List ℕ → BuildingNumbers
 building_of_note note = record {
   area = field note 4 4;
@@ -15,6 +16,6 @@ building_of_note note = record {
   reference = field note 16 2;
 }
 
--- the building of a note
+-- b has the numbers that the note says
 abbrev pub IsBuilding : List ℕ → Building → Type 0
 IsBuilding note b = numbers_of b ≡ building_of_note note

@@ -1,4 +1,4 @@
--- The notes of factor rows that bytes begin with.
+-- The factor rows that bytes begin with.
 use Rattle.std.specs.Prelude.{ℕ, List, [], ◌∷◌, Result}
 use Rattle.refusals.specs.declared.refusal.Refusal.{Refusal}
 use Rattle.domain.specs.declared.factor.FactorRow.{FactorRow}
@@ -11,12 +11,12 @@ use Rattle.feed.specs.Readings.{ReadsFactorRow}
 abbrev pub StartsWithRow : List ℕ → Type 0
 StartsWithRow bs = IsFramed bs × IsOfKind Factor (first_note bs)
 
--- the notes of that kind that bytes begin with, in order, and what is left after them, where no such note comes next
+-- the bytes begin with these notes of factor rows, in order; what is left after them begins with no such note
 pub data StartsWithRows : List ℕ → List (List ℕ) → List ℕ → Type 0 where
   row : {bs left : List ℕ} {notes : List (List ℕ)} → StartsWithRow bs → StartsWithRows (rest_after_first bs) notes left → StartsWithRows bs (first_note bs ∷ notes) left
   ended : {bs : List ℕ} → (StartsWithRow bs → ⊥) → StartsWithRows bs [] bs
 
--- what reading each of these notes as a factor row answers, in their order
+-- the results of reading each of the notes as a factor row, in their order
 pub data ReadsEachRow : List (List ℕ) → List (Result FactorRow Refusal) → Type 0 where
   none : ReadsEachRow [] []
   one : {note : List ℕ} {notes : List (List ℕ)} {r : Result FactorRow Refusal} {rs : List (Result FactorRow Refusal)} → ReadsFactorRow note r → ReadsEachRow notes rs → ReadsEachRow (note ∷ notes) (r ∷ rs)

@@ -1,9 +1,10 @@
--- What a note is, before its fields are looked at.
+-- The frame of a note: its length and its kind.
 use Rattle.std.specs.Prelude.{◌≡◌, ℕ, ◌≤◌, List, length, take, drop}
 use Rattle.feed.specs.declared.frame.Head.{Head}
 use Rattle.feed.specs.Fields.{field}
 
--- the bytes begin with a whole note: four bytes are there, and the length that the first two give is at least 4 and no more than there are
+-- the bytes begin with a whole note: there are at least four, and the length that the first two give is at least 4 and
+-- at most the number of bytes
 pub record IsFramed (bs : List ℕ) : Type 0 where
   pub head : 4 ≤ length bs
   pub least : 4 ≤ field bs 0 2
@@ -13,19 +14,19 @@ pub record IsFramed (bs : List ℕ) : Type 0 where
 unfoldable pub first_note : List ℕ → List ℕ
 first_note bs = take (field bs 0 2) bs
 
--- what comes after it
+-- what comes after the first note
 abbrev pub rest_after_first : List ℕ → List ℕ
 rest_after_first bs = drop (length (first_note bs)) bs
 
--- the bytes are one note, and nothing more
+-- the bytes are exactly one note
 pub record IsOneNote (note : List ℕ) : Type 0 where
   pub head : 4 ≤ length note
   pub sized : field note 0 2 ≡ length note
 
--- the number of a note's kind
+-- the number of the kind of a note
 abbrev pub note_kind : List ℕ → ℕ
 note_kind note = field note 2 2
 
--- the head of a note
+-- head has the length and the kind of the note
 abbrev pub IsHead : List ℕ → Head → Type 0
 IsHead note head = (head.length ≡ length note) × (head.kind ≡ note_kind note)

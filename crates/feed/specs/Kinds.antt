@@ -14,7 +14,7 @@ kind_number Counted = 3
 kind_number Measured = 4
 kind_number Withdrawal = 5
 
--- how many bytes a note of each kind has
+-- the length of a note of each kind, in bytes
 abbrev pub note_length : Kind → ℕ
 note_length Building = 18
 note_length Factor = 14
@@ -30,23 +30,24 @@ kind_word Counted = codes "entry"
 kind_word Measured = codes "measured"
 kind_word Withdrawal = codes "withdrawal"
 
--- all the kinds that there are
+-- all kinds
 abbrev pub kinds : List Kind
 kinds = Building ∷ Factor ∷ Counted ∷ Measured ∷ Withdrawal ∷ []
 
+-- the kind in the list that has the number n, if there is one
 abbrev pub kind_among : ℕ → List Kind → Option Kind
 kind_among n [] = None
 kind_among n (k ∷ ks) = if kind_number k == n then Some k else kind_among n ks
 
--- the kind that has a number, if there is one
+-- the kind that has the number n, if there is one
 abbrev pub kind_of : ℕ → Option Kind
 kind_of n = kind_among n kinds
 
--- the kind of a note, if it is of one that there is
+-- the kind of a note, if its number is that of a kind
 abbrev pub kind_of_note : List ℕ → Option Kind
 kind_of_note note = kind_of (note_kind note)
 
--- a note is of this kind
+-- the note is of this kind
 abbrev pub IsOfKind : Kind → List ℕ → Type 0
 IsOfKind kind note = kind_of_note note ≡ Some kind
 

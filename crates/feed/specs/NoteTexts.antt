@@ -1,4 +1,4 @@
--- Notes in words: a kind, and its fields by name.
+-- The text of a note: its kind, and its fields by name.
 use Rattle.std.specs.Prelude.{ℕ, List, [], ◌∷◌, ◌++◌, codes}
 use Rattle.domain.specs.Buildings.{numbers_of}
 use Rattle.domain.specs.FieldTexts.{NamedField, fields_text, head_fields, building_text, factor_row_text}
@@ -14,6 +14,7 @@ use Rattle.feed.specs.declared.sent_note.SentContent.TheVariants.{Entry, Withdra
 use Rattle.feed.specs.Kinds.{kind_word}
 use Rattle.feed.specs.SentNotes.{content_kind}
 
+-- a counted quantity is called `quantity`, and the bits of a measured one `bits`
 abbrev pub quantity_field : SentQuantity → NamedField
 quantity_field (Counted n) = (codes "quantity", n)
 quantity_field (Measured b) = (codes "bits", b)
@@ -25,15 +26,15 @@ abbrev pub content_fields : SentContent → List NamedField
 content_fields (Entry e) = entry_fields e
 content_fields Withdrawal = []
 
--- a kind in a word, and fields by name
+-- the word for a kind, and fields
 abbrev pub kind_text : Kind → List NamedField → List ℕ
 kind_text kind fields = kind_word kind ++ (codes " " ++ fields_text fields)
 
--- what a note says that is sent: its number and its revision come first
+-- the text of a note that is sent: its number and its revision come first
 abbrev pub sent_note_text : SentNote → List ℕ
 sent_note_text s = kind_text (content_kind s.content) ((codes "number", s.number) ∷ (codes "revision", s.revision) ∷ content_fields s.content)
 
--- what a note says
+-- the text of a note of any kind
 abbrev pub note_text : Note → List ℕ
 note_text (Building b) = building_text (numbers_of b)
 note_text (Factor row) = factor_row_text row

@@ -1,4 +1,4 @@
--- What a note says, kind by kind.
+-- What a note of each kind says.
 use Rattle.std.specs.Prelude.{ℕ, List}
 use Rattle.feed.specs.declared.kind.Kind.{Kind}
 use Rattle.feed.specs.declared.kind.Kind.TheVariants.{Building as BuildingNote, Factor as FactorNote}
@@ -9,11 +9,11 @@ use Rattle.feed.specs.FactorFields.{IsFactorRow}
 use Rattle.feed.specs.Kinds.{IsOfKind}
 use Rattle.feed.specs.SentNotes.{SaysSentNote}
 
--- every kind that there is
+-- holds of every kind
 abbrev pub IsAnyKind : Kind → Type 0
 IsAnyKind kind = Unit {0}
 
--- what the bytes of a note say: its kind, and its fields
+-- the bytes of a note say this: they are of its kind and have its fields
 abbrev pub Says : List ℕ → Note → Type 0
 Says note (Building b) = IsOfKind BuildingNote note × IsBuilding note b
 Says note (Factor row) = IsOfKind FactorNote note × IsFactorRow note row

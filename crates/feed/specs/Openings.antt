@@ -1,4 +1,4 @@
--- What a feed opens with: a building, and the factor rows after it.
+-- The opening of a feed: its building, and the factor rows after it.
 use Rattle.std.specs.Prelude.{ℕ, List, Ok, Err, Result, vec_items}
 use Rattle.refusals.specs.declared.refusal.Refusal.{Refusal}
 use Rattle.domain.specs.declared.building.Building.{Building}
@@ -12,12 +12,13 @@ use Rattle.feed.specs.Frames.{rest_after_first}
 use Rattle.feed.specs.Readings.{ReadsBuilding}
 use Rattle.feed.specs.FactorRows.{StartsWithRows, ReadsEachRow}
 
--- a feed opens with the building b, which is its first note, and the notes of factor rows after it; what comes after these is left
+-- the first note of the feed is the building b, these notes of factor rows come after it, and this is left after them
 pub record OpensWith (feed : List ℕ) (b : Building) (notes : List (List ℕ)) (left : List ℕ) : Type 0 where
   pub building : ReadsBuilding feed (Ok b)
   pub rows : StartsWithRows (rest_after_first feed) notes left
 
--- what a feed opens with, what reading each of its factor rows answers, and the reader behind them: it is one of the feed, and has handed out just these
+-- the feed opens with the building b; reading the factor rows after it gives these results; and rest is a reader of the
+-- feed that has handed out exactly the building and these rows
 pub record IsOpening (feed : List ℕ) (b : Building) (answers : List (Result FactorRow Refusal)) (rest : Reader) : Type 0 where
   pub notes : List (List ℕ)
   pub opens : OpensWith feed b notes (rest_of rest)
@@ -25,12 +26,12 @@ pub record IsOpening (feed : List ℕ) (b : Building) (answers : List (Result Fa
   pub calls : List ReaderAnswer
   pub history : ReaderHistory feed calls rest
 
--- an error says that memory does not suffice
+-- the error is that memory does not suffice
 abbrev pub IsOutOfMemory : OpeningError → Type 0
 IsOutOfMemory (Refused f) = ⊥
 IsOutOfMemory (OutOfMemory e) = Unit {0}
 
--- r is what reading it answers, where memory suffices
+-- r is the result of reading the opening of the feed; nothing is said where memory does not suffice
 abbrev pub ReadsOpening : List ℕ → Result Opening OpeningError → Type 0
 ReadsOpening feed (Ok o) = IsOpening feed o.building (vec_items o.rows) o.rest
 ReadsOpening feed (Err (Refused f)) = ReadsBuilding feed (Err f)

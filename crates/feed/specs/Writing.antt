@@ -1,8 +1,9 @@
--- What is written for a feed.
+-- Writing a text to any writer.
 use Rattle.std.specs.Prelude.{ℕ, List, Option, ◌≡◌, IfSome}
 use Rattle.std.specs.Io.KnownBytes.{Appends}
 
--- a writer of which it is known what it held now holds that, and then a text of which P holds; of another writer this says nothing
+-- a text of which P holds was appended to what the writer held; nothing is said of a writer whose type does not say
+-- what it holds
 pub record WritesText (P : List ℕ → Type 0) (held holds : Option (List ℕ)) : Type 0 where
   pub text : List ℕ
   pub says : P text

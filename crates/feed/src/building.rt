@@ -1,4 +1,4 @@
-//! A note that is a building.
+//! Reading a building from its note.
 ghost use Rattle.std.specs.Prelude.{◌≡◌, ◌≤◌, length};
 ghost use Rattle.feed.specs.BuildingFields.{building_of_note};
 ghost use Rattle.feed.specs.Frames.{IsFramed, first_note};
@@ -6,13 +6,14 @@ ghost use Rattle.feed.specs.Kinds.{note_length};
 ghost use Rattle.feed.specs.declared.kind.Kind.TheVariants.{Building as BuildingNote};
 ghost use Rattle.feed.specs.Readings.{ReadsBuilding};
 
-use crate::content::{Content, read, checked_length};
+use crate::content::{Content, checked_length, read};
 use crate::kind::Kind;
 use crate::little_endian::number_at;
 use domain::{Building, BuildingNumbers};
 use refusals::Refusal;
 
-/// The building that the bytes begin with.
+/// Reads a building from the first note of the bytes. What comes after that note plays no part. Refused by `Unframed`
+/// (1), `UnwantedKind` (2), `WrongLength` (3) or `OutOfRange` (4).
 pub fn read_building(bytes: &[u8]) -> Result<Building, Refusal>
     ensures value { ReadsBuilding bytes.now result }
     ensures alone { IsFramed bytes.now → ReadsBuilding (first_note bytes.now) result }

@@ -1,4 +1,4 @@
-//! What the first note of given bytes is read as.
+//! Reading the first note of the given bytes, in one way for all kinds.
 ghost use Rattle.std.specs.Prelude.{◌≡◌, List, ℕ, length, Some};
 ghost use Rattle.feed.specs.declared.kind.Kind.{Kind};
 ghost use Rattle.feed.specs.Frames.{IsFramed, first_note};
@@ -11,21 +11,23 @@ use crate::frame::{first_note, kind_field};
 use crate::kind::Kind;
 use refusals::Refusal;
 
-// What notes of some kinds are read as.
+// A value that notes of some kinds are read as.
 pub(crate) trait Content: Sized {
-    // the kinds that are read
+    // The kinds that are read.
     ghost Wanted: { Kind → Type 0 };
 
-    // which value a note gives
+    // The value that a note gives.
     ghost Says: { List ℕ → Self → Type 0 };
 
-    // A note's value, where its kind is wanted, its length is its kind's, and its fields are in range.
+    // The value of a note, if its kind is one that is read, its length is that of its kind, and its fields are in
+    // range.
     fn of_note(kind: Kind, note: &[u8]) -> Result<Self, Refusal>
         requires { IsOfKind kind note.now }
         ensures { GivesOrRefuses (form_conditions Wanted (Some kind) note.now) (Says note.now) result };
 }
 
-// The first note of the bytes. Every reading of a note goes through here; its public names are `read_building`, `read_row`, and `read` of a note and of one that is sent.
+// Reads the first note of the bytes. The public calls `read_building`, `read_row`, `Note::read` and `SentNote::read`
+// are all this one.
 #[tactic(auto, using(crate::proofs::Reading::headed, crate::proofs::Reading::reads_alone))]
 pub(crate) fn read<T: Content>(bytes: &[u8]) -> Result<T, Refusal>
     ensures value { Reads T.Wanted T.Says bytes.now result }
@@ -36,7 +38,7 @@ pub(crate) fn read<T: Content>(bytes: &[u8]) -> Result<T, Refusal>
     T::of_note(kind, note)
 }
 
-// The bytes of a note, where they are as many as its kind has.
+// The note itself, if it has the length of its kind.
 pub(crate) fn checked_length(kind: Kind, note: &[u8]) -> Result<&[u8], Refusal>
     ensures { GivesOrRefusesBy (length note.now ≡ note_length kind) WrongLength (λ bytes. bytes.now ≡ note.now) result }
 {

@@ -1,4 +1,5 @@
-//! An entry as it was sent: none of its numbers is judged here. A measured quantity is kept by its bits, which a floating number would lose.
+//! An entry as it was sent, before its numbers are checked. A measured quantity is kept as its bits, since a
+//! floating-point value would not tell all patterns for "not a number" apart.
 ghost use Rattle.std.specs.Prelude.{◌≡◌, ◌≤◌, length, Some};
 ghost use Rattle.feed.specs.declared.kind.Kind.{Kind};
 ghost use Rattle.feed.specs.EntryFields.{quantity_offset, entry_kind, entry_head_of_note, kind_quantity, decoded_entry};
@@ -10,7 +11,7 @@ use crate::sent_note::CONTENT;
 use domain::{Entry, EntryHead, Quantity};
 use std::num::f64_from_bits_with_nan;
 
-// Where the fields of an entry lie.
+// The offsets of the fields of an entry in its note.
 const ROW: usize = CONTENT;
 
 const SPAN: usize = ROW + 2;
@@ -19,23 +20,26 @@ const CODE: usize = SPAN + 2;
 
 const QUANTITY: usize = CODE + 4;
 
-/// How much an entry is for, as it was sent.
+/// The quantity of an entry, as it was sent.
 #[derive(Clone, Copy, Debug, PartialEq, Eq)]
 pub enum SentQuantity {
-    /// in thousandths of a unit
+    /// Thousandths of a unit, any number.
     Counted(u64),
-    /// the bits of a binary64 number
+    /// The bits of a binary64 number of units, any pattern.
     Measured(u64),
 }
 
+/// An entry as it was sent. None of its numbers is checked.
 #[derive(Clone, Copy, Debug, PartialEq, Eq)]
 pub struct SentEntry {
+    /// Its row, span and code.
     pub head: EntryHead,
+    /// How much it is for.
     pub quantity: SentQuantity,
 }
 
 impl SentQuantity {
-    /// The kind of the notes that have such a quantity.
+    /// The kind of note that holds such a quantity.
     pub fn kind(self) -> Kind
         ensures { result ≡ entry_kind self }
     {
@@ -45,7 +49,7 @@ impl SentQuantity {
         }
     }
 
-    // The quantity of a note of this kind, if its kind has one.
+    // The quantity of a note of this kind, if notes of the kind have one.
     pub(crate) fn of_note(kind: Kind, note: &[u8]) -> Option<SentQuantity>
         requires { length note.now ≡ note_length kind }
         ensures { result ≡ kind_quantity (Some kind) note.now }
@@ -58,7 +62,7 @@ impl SentQuantity {
     }
 }
 
-// What an entry says before its quantity.
+// The fields of an entry before its quantity.
 pub(crate) fn head(note: &[u8]) -> EntryHead
     requires { quantity_offset ≤ length note.now }
     ensures { result ≡ entry_head_of_note note.now }
@@ -70,7 +74,7 @@ pub(crate) fn head(note: &[u8]) -> EntryHead
     }
 }
 
-// The entry as it is booked: the bits of a measured quantity are a number.
+/// The entry in the form in which it is booked: the bits of a measured quantity become a number. Nothing is checked.
 impl From<SentEntry> for Entry {
     ghost from_gives = { λ e r. r ≡ decoded_entry e };
 

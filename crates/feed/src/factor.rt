@@ -1,4 +1,4 @@
-//! A note that is a row of a project's own factors.
+//! Reading a row of a project's own factors from its note.
 ghost use Rattle.std.specs.Prelude.{◌≡◌, ◌≤◌, length, MatchBool, ◌↔◌, IsTrue};
 ghost use Rattle.feed.specs.FactorFields.{factor_row_of_note};
 ghost use Rattle.feed.specs.Frames.{IsFramed, first_note};
@@ -7,14 +7,15 @@ ghost use Rattle.feed.specs.declared.kind.Kind.TheVariants.{Factor as FactorNote
 ghost use Rattle.feed.specs.Readings.{ReadsFactorRow};
 ghost use Rattle.feed.specs.FactorRows.{StartsWithRow};
 
-use crate::content::{Content, read, checked_length};
+use crate::content::{Content, checked_length, read};
 use crate::frame::Head;
 use crate::kind::Kind;
 use crate::little_endian::number_at;
 use domain::{Factor, FactorNumbers, FactorRow};
 use refusals::Refusal;
 
-/// The factor row that the bytes begin with. One that is read is in range.
+/// Reads a factor row, whose numbers are in range, from the first note of the bytes. What comes after that note plays
+/// no part. Refused by `Unframed` (1), `UnwantedKind` (2), `WrongLength` (3) or `OutOfRange` (4).
 pub fn read_row(bytes: &[u8]) -> Result<FactorRow, Refusal>
     ensures value { ReadsFactorRow bytes.now result }
     ensures alone { IsFramed bytes.now → ReadsFactorRow (first_note bytes.now) result }
@@ -22,7 +23,7 @@ pub fn read_row(bytes: &[u8]) -> Result<FactorRow, Refusal>
     read(bytes)
 }
 
-// Whether the bytes begin with a note of this kind.
+// Whether the bytes begin with a note of the kind of factor rows.
 pub(crate) fn row_is_next(bytes: &[u8]) -> bool
     ensures { IsTrue result ↔ StartsWithRow bytes.now }
 {

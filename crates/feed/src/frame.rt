@@ -1,4 +1,4 @@
-//! Where the first note of given bytes ends, and what it says before its fields.
+//! The frame of a note: its length and its kind, which come before its fields.
 ghost use Rattle.std.specs.Prelude.{◌≡◌, ◌≤◌, length};
 ghost use Rattle.feed.specs.Frames.{first_note, note_kind, IsHead};
 ghost use Rattle.feed.specs.Readings.{framing_conditions};
@@ -7,14 +7,14 @@ ghost use Rattle.refusals.specs.Refusals.{GivesOrRefuses};
 use crate::little_endian::number_at;
 use refusals::Refusal;
 
-// A note's length and its kind, two bytes each, come before its fields.
+// The offsets of the length and the kind, two bytes each, and of the first field.
 const LENGTH: usize = 0;
 
 const KIND: usize = 2;
 
 pub(crate) const FIELDS: usize = 4;
 
-/// The note that the bytes begin with, as a part of them.
+/// Returns the first note of the bytes, as a slice of them. Refused by `Unframed` (1).
 pub fn first_note(bytes: &[u8]) -> Result<&[u8], Refusal>
     ensures { GivesOrRefuses (framing_conditions bytes.now) (λ note. note.now ≡ first_note bytes.now) result }
 {
@@ -35,16 +35,17 @@ pub(crate) fn kind_field(note: &[u8]) -> u16
     number_at(note, KIND)
 }
 
-/// What a note says before its fields.
+/// The length and the kind of a note.
 #[derive(Clone, Copy, Debug, PartialEq, Eq)]
 pub struct Head {
+    /// The length of the whole note in bytes, at least 4.
     pub length: usize,
-    /// a number, as it may be of no kind that there is
+    /// The number of its kind. It may be of no kind that exists.
     pub kind: u16,
 }
 
 impl Head {
-    /// The length and the kind of the first note of the bytes.
+    /// Reads the head of the first note of the bytes. Refused by `Unframed` (1).
     pub fn read(bytes: &[u8]) -> Result<Head, Refusal>
         ensures { GivesOrRefuses (framing_conditions bytes.now) (IsHead (first_note bytes.now)) result }
     {

@@ -1,13 +1,14 @@
-//! How a program reads a feed.
+//! Reading a whole feed into memory.
 ghost use Rattle.std.specs.Prelude.{◌≡◌, IfOk, IfSome, take};
 
 use std::alloc::Global;
 use std::io::{self, Read};
 
-/// The most bytes that a program takes as a feed.
+/// The most bytes that a feed may have in the programs.
 pub const MAX_BYTES: usize = 65_536;
 
-/// What a reader still has. Of a feed that is too long, no more than shows it: one byte beyond the most.
+/// Reads all that the reader still has, but at most `MAX_BYTES` and one more byte, which shows that a feed is too long.
+/// Fails where the reader or the allocator does. Of a reader whose type does not say what it has, nothing is promised.
 pub fn read_feed<R: Read + Drop>(heap: Global, reader: R) -> io::Result<Vec<u8>>
     ensures { IfOk result (λ bytes. IfSome (R.remaining reader) (λ feed. bytes.items ≡ take 65537 feed)) }
 {

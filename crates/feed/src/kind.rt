@@ -1,4 +1,4 @@
-//! The kinds of notes.
+//! The kinds of notes: their numbers, their lengths and their words.
 ghost use Rattle.std.specs.Prelude.{◌≡◌, Some, IsSome};
 ghost use Rattle.feed.specs.Kinds.{kind_number, DecodesKind, note_length, kind_word};
 ghost use Rattle.refusals.specs.declared.refusal.Refusal.TheVariants.{UnwantedKind};
@@ -7,17 +7,23 @@ ghost use Rattle.refusals.specs.Refusals.{GivesOrRefusesBy};
 use refusals::Refusal;
 use std::fmt;
 
+/// The kind of a note. Its number in a feed is 1 to 5.
 #[derive(Clone, Copy, Debug, PartialEq, Eq)]
 pub enum Kind {
+    /// The building that a sheet accounts for.
     Building = 1,
+    /// A row of the project's own factors.
     Factor = 2,
+    /// An entry with a quantity in whole thousandths of a unit.
     Counted = 3,
+    /// An entry with a binary64 number of units.
     Measured = 4,
+    /// A withdrawal of what was sent under a number.
     Withdrawal = 5,
 }
 
 impl Kind {
-    /// How many bytes a note of this kind has.
+    /// The length of a note of this kind in bytes.
     pub fn length(self) -> usize
         ensures { result ≡ note_length self }
     {
@@ -30,6 +36,7 @@ impl Kind {
     }
 }
 
+/// Refused by `UnwantedKind` (2) if no kind has the number.
 impl TryFrom<u16> for Kind {
     type Error = Refusal;
 

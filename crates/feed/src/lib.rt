@@ -1,4 +1,4 @@
-//! The feed: how notes lie end to end in bytes, what each of them says, and what a feed opens with.
+//! The feed: reading notes that lie end to end in bytes, and the building and factor rows that a feed opens with.
 #![tactic(auto)]
 
 mod building;
@@ -10,10 +10,10 @@ mod input;
 mod kind;
 mod little_endian;
 mod note;
+mod note_text;
 mod opening;
 mod reader;
 mod sent_note;
-mod note_text;
 
 pub use building::read_building;
 pub use entry::{SentEntry, SentQuantity};

@@ -1,8 +1,9 @@
-//! The numbers in a note: fields of two, four or eight bytes, the lowest byte first.
+//! The numbers in a note: unsigned fields of two, four or eight bytes, the lowest byte first.
 ghost use Rattle.std.specs.Prelude.{◌≡◌, ℕ, ◌+◌, ◌≤◌, length};
 ghost use Rattle.feed.specs.Fields.{little_endian_number, field};
 
-// An unsigned number of N bytes. The toolchain's own trait for this hides N, so no array could be cut from a note for it.
+// An unsigned number of N bytes. The toolchain's own trait for this hides N, so it cannot say how large an array to cut
+// from a note.
 pub(crate) trait LittleEndian<const N: usize>: Sized {
     ghost value: { Self → ℕ };
 
@@ -10,7 +11,7 @@ pub(crate) trait LittleEndian<const N: usize>: Sized {
         ensures { value result ≡ little_endian_number bytes.entry };
 }
 
-// The field at this offset. How wide it is follows from the number that is asked for.
+// The field at this offset. Its width follows from the type of the result.
 pub(crate) fn number_at<const N: usize, T: LittleEndian<N>>(note: &[u8], at: usize) -> T
     requires { at + N ≤ length note.now }
     ensures { T.value result ≡ field note.now at N }

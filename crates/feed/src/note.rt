@@ -1,4 +1,4 @@
-//! A note of any kind.
+//! Reading a note of any kind.
 ghost use Rattle.feed.specs.Frames.{IsFramed, first_note};
 ghost use Rattle.feed.specs.Notes.{IsAnyKind, Says};
 ghost use Rattle.feed.specs.Readings.{Reads};
@@ -9,15 +9,20 @@ use crate::sent_note::SentNote;
 use domain::{Building, FactorRow};
 use refusals::Refusal;
 
+/// A note of any kind.
 #[derive(Clone, Copy, Debug, PartialEq, Eq)]
 pub enum Note {
+    /// A building.
     Building(Building),
+    /// A row of the project's own factors. One that was read has its numbers in range.
     Factor(FactorRow),
+    /// An entry or a withdrawal.
     Sent(SentNote),
 }
 
 impl Note {
-    /// The first note of the bytes, whatever its kind.
+    /// Reads the first note of the bytes. What comes after that note plays no part. Refused by `Unframed` (1),
+    /// `UnwantedKind` (2), `WrongLength` (3) or `OutOfRange` (4).
     pub fn read(bytes: &[u8]) -> Result<Note, Refusal>
         ensures value { Reads IsAnyKind Says bytes.now result }
         ensures alone { IsFramed bytes.now → Reads IsAnyKind Says (first_note bytes.now) result }

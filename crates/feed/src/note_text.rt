@@ -1,11 +1,11 @@
-//! Notes in words: a kind, and its fields by name.
+//! The text of a note: its kind, and its fields by name.
 ghost use Rattle.std.specs.Prelude.{Some};
 ghost use Rattle.domain.specs.FieldTexts.{fields_text};
 ghost use Rattle.feed.specs.NoteTexts.{entry_fields, sent_note_text, note_text};
 
 use crate::entry::{SentEntry, SentQuantity};
 use crate::note::Note;
-use crate::sent_note::{SentNote, SentContent};
+use crate::sent_note::{SentContent, SentNote};
 use domain::EntryHead;
 use std::fmt;
 

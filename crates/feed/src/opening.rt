@@ -1,4 +1,4 @@
-//! What a feed opens with.
+//! The opening of a feed: its building, and the factor rows that come straight after it.
 ghost use Rattle.std.specs.Prelude.{◌≡◌};
 ghost use Rattle.feed.specs.Openings.{IsOutOfMemory, ReadsOpening};
 ghost use Rattle.feed.specs.declared.opening.OpeningError.TheVariants.{Refused};
@@ -10,20 +10,23 @@ use domain::{Building, FactorRow};
 use refusals::Refusal;
 use std::alloc::{AllocError, AllocFailed, Global};
 
-/// A building, and the factor rows after it.
+/// What a feed opens with: a building, and the factor rows that come straight after it.
 #[derive(Debug, Drop)]
 pub struct Opening<'a> {
+    /// The building, which is the first note.
     pub building: Building,
-    /// what reading each of the rows answered, in their order
+    /// The result of reading each factor row, in their order, refused ones included.
     pub rows: Vec<Result<FactorRow, Refusal>>,
-    /// what comes after them
+    /// A reader that has passed the building and the rows.
     pub rest: Reader<'a>,
 }
 
-/// Why there is no opening: the first note is no building, or there is no memory for the rows.
+/// Why an opening could not be read.
 #[derive(Debug, Drop)]
 pub enum OpeningError {
+    /// The building was refused.
     Refused(Refusal),
+    /// There is no memory for the factor rows.
     OutOfMemory(AllocError),
 }
 
@@ -44,13 +47,14 @@ impl<T: Drop> From<AllocFailed<T>> for OpeningError {
 }
 
 impl<'a> Opening<'a> {
-    /// The first note is the building, and the notes of the kind of factor rows after it are the rows. Those that are refused are
-    /// among them: what becomes of them the caller says.
+    /// Reads the building from the first note of the feed, and then all factor rows up to the first note of another
+    /// kind. The building is refused as `read_building` refuses it. A refused row is no error here: the caller decides
+    /// what follows from it.
     pub fn read(heap: Global, feed: &'a [u8]) -> Result<Opening<'a>, OpeningError>
         ensures { ReadsOpening feed.now result }
     {
         let building = read_building(feed)?;
-        // Past the first note, which is the building.
+        // The first note is the building.
         let mut rest = Reader::new(feed);
         rest.next()?;
         let mut rows = Vec::new(heap);

@@ -1,27 +1,29 @@
-//! The notes of a feed, one after the other.
+//! A reader that hands out the notes of a feed one after the other.
 ghost use Rattle.std.specs.Prelude.{ℕ, ◌≤◌, List, ◌∷◌, length};
 
 use crate::factor::row_is_next;
 use crate::frame::first_note;
 use refusals::Refusal;
 
-/// A part of the feed: a note, or what is left after the last one.
+/// A part of a feed: a note, or all that a reader has not handed out yet.
 #[derive(Clone, Copy, Debug, PartialEq, Eq)]
 pub struct Part<'a> {
-    /// its place among the notes of the feed, from 1
+    /// The number of the note within the feed, from 1.
     pub place: usize,
-    /// how many bytes of the feed come before it
+    /// How many bytes of the feed come before it.
     pub start: usize,
+    /// Its bytes.
     pub bytes: &'a [u8],
 }
 
-/// Reads the caller's bytes where they lie. It is no `Copy`, since a copy would hand out its notes again.
+/// Hands out the notes of a feed as slices of the caller's bytes, in order. It is not `Copy`, since a copy would hand
+/// out the same notes again.
 #[derive(Debug, Drop)]
 pub struct Reader<'a> {
     feed: &'a [u8],
-    // how many bytes have been handed out
+    // How many bytes have been handed out.
     start: usize,
-    // how many notes they were
+    // How many notes have been handed out.
     handed_out: usize,
     ghost start_within: { start ≤ length feed.now },
     ghost handed_within: { handed_out ≤ start },
@@ -30,6 +32,7 @@ pub struct Reader<'a> {
 impl<'a> Reader<'a> {
     ghost use Rattle.feed.specs.Feeds.{IsNewReader, AnswersNext, HandsOutNote, HandsOutRow, KeepsReaderLaw, IsRest};
 
+    /// Makes a reader at the start of the feed.
     pub fn new(feed: &'a [u8]) -> Reader<'a>
         ensures { IsNewReader feed.now result }
     {
@@ -40,8 +43,9 @@ impl<'a> Reader<'a> {
         }
     }
 
-    /// No `Iterator`, since after a refusal it answers the same for ever.
-    /// The next note, or none where the feed has ended. Where there is none or it is refused, the reader stays, and answers the same again.
+    /// Hands out the next note, or `None` where no byte is left. Refused by `Unframed` (1) where the bytes left do not
+    /// begin with a whole note. After `None` or a refusal the reader is unchanged, and every further call returns the
+    /// same. No `Iterator`, since it would return the same refusal without end.
     pub fn next(&mut self) -> Result<Option<Part<'a>>, Refusal>
         ensures value { AnswersNext self.old result self.new }
         ensures law { KeepsReaderLaw self.old result self.new }
@@ -56,14 +60,15 @@ impl<'a> Reader<'a> {
         Ok(Some(Part { bytes, ..left }))
     }
 
-    /// The next note, or none where none can be told from what is left: the reader stays then.
+    /// Hands out the next note, or `None` where `next` returns none or is refused. The reader is then unchanged.
     pub fn next_note(&mut self) -> Option<Part<'a>>
         ensures { HandsOutNote self.old result self.new }
     {
         self.next().unwrap_or(None)
     }
 
-    /// The next note, if it is of the kind of factor rows; else none, and the reader stays.
+    /// Hands out the next note if it is of the kind of factor rows. Otherwise the result is `None`, and the reader is
+    /// unchanged.
     pub fn next_row(&mut self) -> Option<Part<'a>>
         ensures { HandsOutRow self.old result self.new }
     {
@@ -74,7 +79,7 @@ impl<'a> Reader<'a> {
         }
     }
 
-    /// What is not handed out yet, at the place of the next note.
+    /// Returns all that has not been handed out yet, with the place and the start of the next note.
     pub fn rest(&self) -> Part<'a>
         ensures { IsRest self.now result }
     {

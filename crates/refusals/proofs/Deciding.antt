@@ -1,4 +1,4 @@
--- Which refusal is told: laws of conditions, and of `Decided`.
+-- Which refusal a call returns: laws of conditions and of `GivesOrRefuses`.
 use Rattle.std.proofs.Common.{◌≡◌, ℕ, zero, suc, ◌<◌, ◌⊎◌, Bool, true, false, ◌&&◌, not, ◌==◌, nat_lt, List, [], ◌∷◌, ◌++◌, map, Ok, Err, Result, refl, subst, inl, inr, ⊎_elim, arith}
 use Rattle.std.specs.Bool.{IsTrue}
 use Rattle.std.proofs.lemmas.Bool.Decides.{nat_tests}
@@ -6,9 +6,9 @@ use Rattle.std.proofs.str.Laws.{order}
 use Rattle.refusals.specs.declared.refusal.Refusal.{Refusal}
 use Rattle.refusals.specs.Refusals.{refusal_number, Conditions, AllHold, OneFails, IsLeastFailing, IsAnswerNumber, GivesOrRefuses}
 
--- ---- The order of telling
+-- ---- The order of conditions
 
--- the numbers of conditions, in the order in which they stand
+-- the numbers of conditions, in their order
 abbrev pub numbers : Conditions → List ℕ
 numbers cs = map (λ c. c.0) cs
 
@@ -16,7 +16,7 @@ abbrev pub all_after : ℕ → List ℕ → Bool
 all_after n [] = true
 all_after n (m ∷ ms) = nat_lt n m && all_after n ms
 
--- conditions stand in the order in which they are told: every number is before all that come after it
+-- the numbers are ascending: each is smaller than all that follow it
 abbrev pub in_order : List ℕ → Bool
 in_order [] = true
 in_order (n ∷ ns) = all_after n ns && in_order ns
@@ -24,7 +24,7 @@ in_order (n ∷ ns) = all_after n ns && in_order ns
 abbrev pub InOrder : Conditions → Type 0
 InOrder cs = IsTrue (in_order (numbers cs))
 
--- the number n is not among these
+-- the number n is not in the list
 abbrev pub without : ℕ → List ℕ → Bool
 without n [] = true
 without n (m ∷ ms) = not (m == n) && without n ms
@@ -62,17 +62,17 @@ fails_right : (cs ds : Conditions) (n : ℕ) → OneFails ds n → OneFails (cs 
 fails_right [] ds n b = b
 fails_right (c ∷ cs) ds n b = inr (fails_right cs ds n b)
 
--- no condition has a number that is not among theirs
+-- no condition with the number n fails, where none has that number
 pub number_absent : (cs : Conditions) (n : ℕ) → IsTrue (without n (numbers cs)) → OneFails cs n → ⊥
 number_absent [] n w b = b
 number_absent (c ∷ cs) n w (inl e) = grind (arith, nat_tests)
 number_absent (c ∷ cs) n w (inr b) = number_absent cs n (grind (arith, nat_tests)) b
 
--- nor is such a number told
+-- nor is n the smallest number of one that fails
 pub absent_not_least : (cs : Conditions) (n : ℕ) → IsTrue (without n (numbers cs)) → {k : ℕ} → IsLeastFailing cs k → k ≡ n → ⊥
 absent_not_least cs n w least is = number_absent cs n w (subst (OneFails cs) is least.0)
 
--- what fails of conditions that all come after the number n comes after it
+-- where all numbers are above n, a condition that fails has a number above n
 after : (n : ℕ) (cs : Conditions) → IsTrue (all_after n (numbers cs)) → (k : ℕ) → OneFails cs k → n < k
 after n [] a k b = absurd b
 after n (c ∷ cs) a k (inl e) = grind (arith, nat_tests)
@@ -82,16 +82,16 @@ after_right : (n : ℕ) (cs ds : Conditions) → IsTrue (all_after n (numbers (c
 after_right n [] ds a = a
 after_right n (c ∷ cs) ds a = after_right n cs ds (grind (arith, nat_tests))
 
--- of lists in their order, what fails of the first comes before what fails of the second
+-- of two lists in ascending order, a number that fails in the first is below one that fails in the second
 pub earlier : (cs ds : Conditions) → InOrder (cs ++ ds) → (m k : ℕ) → OneFails cs m → OneFails ds k → m < k
 earlier [] ds o m k b d = absurd b
 earlier (c ∷ cs) ds o m k (inl e) d =
     let later = after c.0 ds (after_right c.0 cs ds (grind (arith, nat_tests))) k d in omega (arith, e.0, later)
 earlier (c ∷ cs) ds o m k (inr b) d = earlier cs ds (grind (arith, nat_tests)) m k b d
 
--- ---- Which one is told
+-- ---- Which number is the smallest
 
--- conditions that hold play no part
+-- conditions in front that all hold change nothing
 pub least_on : (cs ds : Conditions) (n : ℕ) → AllHold cs → IsLeastFailing ds n → IsLeastFailing (cs ++ ds) n
 least_on cs ds n kept d =
     (fails_right cs ds n d.0, λ m l b. ⊎_elim (none_fails cs kept m) (d.1 m l) (fails_either cs ds m b))
@@ -100,16 +100,16 @@ least_off : (cs ds : Conditions) (n : ℕ) → AllHold cs → IsLeastFailing (cs
 least_off cs ds n kept d =
     (⊎_elim (λ b. absurd (none_fails cs kept n b)) (λ b. b) (fails_either cs ds n d.0), λ m l b. d.1 m l (fails_right cs ds m b))
 
--- nor do those that are told later
+-- nor do conditions behind, with larger numbers
 pub least_stop : (cs ds : Conditions) (n : ℕ) → InOrder (cs ++ ds) → IsLeastFailing cs n → IsLeastFailing (cs ++ ds) n
 least_stop cs ds n o d =
     (fails_left cs ds n d.0, λ m l b. ⊎_elim (d.1 m l) (λ e. let later = earlier cs ds o n m d.0 e in omega arith) (fails_either cs ds m b))
 
--- where one of the later conditions is told, none of the first fails
+-- where the smallest number is of the second list, no condition of the first fails
 pub first_hold : (cs ds : Conditions) (k : ℕ) → InOrder (cs ++ ds) → IsLeastFailing (cs ++ ds) k → OneFails ds k → (m : ℕ) → OneFails cs m → ⊥
 first_hold cs ds k o least d m b = least.1 m (earlier cs ds o m k b d) (fails_left cs ds m b)
 
--- of conditions in their order one fails, and those before it hold: it is told
+-- in ascending order, the first condition that fails has the smallest number
 pub least_failing : (before after : Conditions) (n : ℕ) {P : Type 0} → InOrder (before ++ ((n, P) ∷ after)) → AllHold before → (P → ⊥) → IsLeastFailing (before ++ ((n, P) ∷ after)) n
 least_failing before after n {P} o kept fails =
     least_on before ((n, P) ∷ after) n kept
@@ -122,17 +122,17 @@ least_failing before after n {P} o kept fails =
         right [] o = o
         right (b ∷ bs) o = right bs (grind (arith, nat_tests))
 
--- no two numbers are the smallest
+-- at most one number is the smallest
 pub least_only : (cs : Conditions) (m n : ℕ) → IsLeastFailing cs m → IsLeastFailing cs n → m ≡ n
 least_only cs m n a b =
     ⊎_elim (λ l. absurd (b.1 m l a.0)) (λ l. ⊎_elim (λ l'. absurd (a.1 n l' b.0)) (λ l'. omega arith) (order n m)) (order m n)
 
--- the one or the other, by a test
+-- A or B, by a test
 abbrev pub either : Bool → Type 0 → Type 0 → Type 0
 either true A B = A
 either false A B = B
 
--- what conditions ask by the number n
+-- the first condition with the number n, or nothing where there is none
 abbrev pub conditions_at : ℕ → Conditions → Type 0
 conditions_at n [] = Unit {0}
 conditions_at n (c ∷ cs) = either (c.0 == n) c.1 (conditions_at n cs)
@@ -141,17 +141,17 @@ one_of : {A B : Type 0} (t : Bool) → A → B → either t A B
 one_of true a b = a
 one_of false a b = b
 
--- of conditions that hold, the one by the number n
+-- where all conditions hold, so does the one with the number n
 pub hold_at : (n : ℕ) (cs : Conditions) → AllHold cs → conditions_at n cs
 hold_at n [] k = tt
 hold_at n (c ∷ cs) k = one_of (c.0 == n) k.0 (hold_at n cs k.1)
 
--- ---- Answers
+-- ---- Results
 
 pub above_zero : (f : Refusal) → 0 < refusal_number f
 above_zero f = grind arith
 
--- a value is answered by 0, and a refusal by its number
+-- the number is 0 where all conditions hold, and the smallest number where one fails
 pub answered_hold : (cs : Conditions) → AllHold cs → IsAnswerNumber cs 0
 answered_hold cs kept = record { kept = λ zero. kept; least = λ more. absurd (omega arith) }
 
@@ -167,18 +167,19 @@ one_number cs zero (suc n) p q = absurd (none_fails cs (p.kept refl) (suc n) (q.
 one_number cs (suc m) zero p q = absurd (none_fails cs (q.kept refl) (suc m) (p.least (omega arith)).0)
 one_number cs (suc m) (suc n) p q = least_only cs (suc m) (suc n) (p.least (omega arith)) (q.least (omega arith))
 
--- conditions are answered by one number
+-- the number of a result is unique
 pub number_unique : (cs : Conditions) {m n : ℕ} → IsAnswerNumber cs m → IsAnswerNumber cs n → m ≡ n
 number_unique cs {m = m} {n = n} = one_number cs m n
 
--- two answers are the same: values that R relates, or refusals by one number
+-- two results are the same: values that R relates, or refusals with one number
 abbrev pub SameAnswer : {X : Type 0} → (X → X → Type 0) → Result X Refusal → Result X Refusal → Type 0
 SameAnswer R (Ok x) (Ok y) = R x y
 SameAnswer R (Ok x) (Err g) = ⊥
 SameAnswer R (Err f) (Ok y) = ⊥
 SameAnswer R (Err f) (Err g) = refusal_number f ≡ refusal_number g
 
--- two answers to the same conditions are the same, where R relates a value of which P holds to one of which Q holds
+-- two results under the same conditions are the same, where R relates every value of which P holds to every one of
+-- which Q holds
 pub answer_unique : {X : Type 0} (cs : Conditions) (P Q : X → Type 0) (R : X → X → Type 0) → ((x y : X) → P x → Q y → R x y) → (r s : Result X Refusal) → GivesOrRefuses cs P r → GivesOrRefuses cs Q s → SameAnswer R r s
 answer_unique cs P Q R one (Ok x) (Ok y) d e = one x y d.1 e.1
 answer_unique cs P Q R one (Ok x) (Err g) d e = none_fails cs d.0 (refusal_number g) e.0

@@ -1,13 +1,13 @@
--- The numbers of refusals, and which of several is told.
+-- The numbers of refusals, and which of several a call returns.
 use Rattle.std.specs.Prelude.{◌≡◌, ℕ, ◌<◌, ◌⊎◌, List, [], ◌∷◌, Ok, Err, Result}
 use Rattle.refusals.specs.declared.refusal.Refusal.{Refusal}
 use Rattle.refusals.specs.declared.refusal.Refusal.TheVariants.{Unframed, UnwantedKind, WrongLength, OutOfRange, UnknownRow, UnfitSpan, UnfitQuantity, FactorLacking, UnfitUnit, TooLarge, TooFewPlaces, Superseded, Contradicted, BookFull, TooManyRows, FeedTooLong}
 
--- the number of a lack, whatever codes it names
+-- the number of a lack, the same for all codes
 abbrev pub lack_number : ℕ
 lack_number = 8
 
--- each refusal's number
+-- the number of a refusal
 abbrev pub refusal_number : Refusal → ℕ
 refusal_number Unframed = 1
 refusal_number UnwantedKind = 2
@@ -26,12 +26,12 @@ refusal_number BookFull = 23
 refusal_number TooManyRows = 24
 refusal_number FeedTooLong = 25
 
--- the codes that a refusal names: a lack names the one that was asked for and the one that is lacking
+-- the codes that a refusal names: for a lack, the one that was asked for and the one that is lacking
 abbrev pub refusal_codes : Refusal → List ℕ
 refusal_codes (FactorLacking l) = l.asked ∷ l.lacking ∷ []
 refusal_codes f = []
 
--- what a call asks for, each condition with the number of the refusal where it fails
+-- the conditions of a call, each with the number of the refusal where it fails
 abbrev pub Conditions : Type 1
 Conditions = List (ℕ × Type 0)
 
@@ -40,7 +40,7 @@ abbrev pub AllHold : Conditions → Type 0
 AllHold [] = Unit {0}
 AllHold (c ∷ cs) = c.1 × AllHold cs
 
--- a condition with the number n fails
+-- some condition with the number n fails
 abbrev pub OneFails : Conditions → ℕ → Type 0
 OneFails [] n = ⊥
 OneFails (c ∷ cs) n = ((n ≡ c.0) × (c.1 → ⊥)) ⊎ OneFails cs n
@@ -49,22 +49,23 @@ OneFails (c ∷ cs) n = ((n ≡ c.0) × (c.1 → ⊥)) ⊎ OneFails cs n
 abbrev pub IsLeastFailing : Conditions → ℕ → Type 0
 IsLeastFailing cs n = OneFails cs n × ((m : ℕ) → m < n → OneFails cs m → ⊥)
 
--- the number of a call's answer: 0 where it gives a value, and else that of its refusal
+-- the number of a result: 0 for a value, and otherwise that of the refusal
 abbrev pub answer_number : {X : Type 0} → Result X Refusal → ℕ
 answer_number (Ok x) = 0
 answer_number (Err f) = refusal_number f
 
--- a call answers by the number n to what it asks for: 0 where all conditions hold, and else the smallest number of one that fails
+-- n is the number of the result: 0 where all conditions hold, and otherwise the smallest number of one that fails
 pub record IsAnswerNumber (cs : Conditions) (n : ℕ) : Type 0 where
   pub kept : n ≡ 0 → AllHold cs
   pub least : 0 < n → IsLeastFailing cs n
 
--- a call gives a value, of which Q holds, where all conditions hold, and else refuses by the smallest number
+-- the result is a value of which Q holds where all conditions hold, and otherwise the refusal with the smallest number
+-- of one that fails
 abbrev pub GivesOrRefuses : {X : Type 0} → Conditions → (X → Type 0) → Result X Refusal → Type 0
 GivesOrRefuses cs Q (Ok x) = AllHold cs × Q x
 GivesOrRefuses cs Q (Err f) = IsLeastFailing cs (refusal_number f)
 
--- where P holds, a call gives a value of which Q holds, and else the refusal f
+-- the result is a value of which Q holds where P holds, and otherwise the refusal f
 abbrev pub GivesOrRefusesBy : {X : Type 0} → Type 0 → Refusal → (X → Type 0) → Result X Refusal → Type 0
 GivesOrRefusesBy P f Q (Ok x) = P × Q x
 GivesOrRefusesBy P f Q (Err e) = (e ≡ f) × (P → ⊥)

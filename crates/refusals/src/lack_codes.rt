@@ -1,14 +1,16 @@
-//! What is named where a source lacks a factor.
+//! The codes that a refusal names where a source lacks a factor.
 ghost use Rattle.std.specs.Prelude.{Some};
 ghost use Rattle.refusals.specs.RefusalTexts.{lack_codes_text};
 
 use std::error::Error;
 use std::fmt;
 
-/// The code that was asked for, and the code that is lacking: a source that answers by another code may lack that one.
+/// The two codes of a lack. They differ where a source would use the factor of another code and lacks that one.
 #[derive(Clone, Copy, Debug, PartialEq, Eq)]
 pub struct LackCodes {
+    /// The code that the source was asked for.
     pub asked: u32,
+    /// The code for which there is no factor.
     pub lacking: u32,
 }
 

@@ -1,4 +1,4 @@
-//! Why calls are refused, and which of several reasons is told.
+//! Why a call is refused: one list of reasons and numbers for all crates.
 #![tactic(auto)]
 
 mod lack_codes;

@@ -1,4 +1,4 @@
-//! Why a call is refused.
+//! The refusals, their numbers and their text.
 ghost use Rattle.std.specs.Prelude.{◌≡◌, [], ◌∷◌, Some};
 ghost use Rattle.refusals.specs.Refusals.{refusal_number, lack_number, refusal_codes};
 ghost use Rattle.refusals.specs.RefusalTexts.{refusal_text};
@@ -7,45 +7,46 @@ use crate::lack_codes::LackCodes;
 use std::error::Error;
 use std::fmt;
 
-/// Each refusal has a number, and where several hold the smallest is told.
+/// Why a call is refused. Where several reasons apply, the call returns the one with the smallest number.
 #[derive(Clone, Copy, Debug, PartialEq, Eq)]
 pub enum Refusal {
-    /// No note can be told from the bytes: they are too few for its head or for the length that it gives, or that length is less than a head's.
+    /// The bytes do not begin with a whole note (1): they are fewer than four, or the length that the first two give is
+    /// less than 4 or more than there are.
     Unframed,
-    /// The note is of another kind than the call reads.
+    /// The note is of another kind than the call reads (2).
     UnwantedKind,
-    /// The note is longer or shorter than its kind.
+    /// The note is longer or shorter than notes of its kind (3).
     WrongLength,
-    /// A number of a building or of a factor row is out of range.
+    /// A number of a building or of a factor is out of range (4).
     OutOfRange,
-    /// There is no such row.
+    /// The row of an entry is not 1 to 22 (5).
     UnknownRow,
-    /// The span does not fit the row.
+    /// The span of an entry does not fit its row (6).
     UnfitSpan,
-    /// The quantity is out of range, infinite or not a number.
+    /// The quantity of an entry is out of range, infinite or not a number (7).
     UnfitQuantity,
-    /// The source lacks the factor.
+    /// The source lacks the factor of a code (8).
     FactorLacking(LackCodes),
-    /// The factor's unit does not fit the row.
+    /// The unit of the factor does not fit the row (9).
     UnfitUnit,
-    /// Thousandths, amount and multiplier make a product above 10^18, before anything is divided.
+    /// The product of thousandths, amount and multiplier is above 10^18 before it is divided (10).
     TooLarge,
-    /// A page is lent fewer places than it has headings.
+    /// A page is given fewer places than its cut has headings (11).
     TooFewPlaces,
-    /// The sheet holds a higher revision under the number, or the same one with an equal line.
+    /// The sheet holds a higher revision of the number, or the same revision with equal content (21).
     Superseded,
-    /// The sheet holds the same revision under the number, with another line.
+    /// The sheet holds the same revision of the number with other content (22).
     Contradicted,
-    /// The number is new, and every place of the book is taken.
+    /// The number is new, and all 512 places of the book are taken (23).
     BookFull,
-    /// A project lists more factors of its own than it may.
+    /// A feed has more than 256 factor rows after its building (24).
     TooManyRows,
-    /// A feed has more bytes than are read.
+    /// A feed has more than 65,536 bytes (25).
     FeedTooLong,
 }
 
 impl Refusal {
-    /// No `From`: a lack's number leaves out its codes.
+    /// The number of the refusal. No `From`, since the number of a lack leaves out its codes.
     pub fn number(self) -> u8
         ensures { result ≡ refusal_number self }
     {

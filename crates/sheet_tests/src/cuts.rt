@@ -4,7 +4,7 @@ use booking::Row;
 use grades::Grade;
 use pages::{ByRow, ByStage, ByType, Cut, Figure};
 use refusals::Refusal;
-use sheet::account;
+use sheet::page_and_grade;
 
 fn figure(kilograms: i64, count: u16) -> Figure {
     Figure { kilograms, count }
@@ -19,7 +19,7 @@ fn drawn<C: Cut>(
     let second = entry(2, 0, 3, 1_000);
     let third = entry(3, 0, 22, 1_000);
     let sends: [&[u8]; 3] = [&first, &second, &third];
-    Ok(account(house()?, list(), &sends, cut, figures))
+    Ok(page_and_grade(house()?, list(), &sends, cut, figures))
 }
 
 #[test]

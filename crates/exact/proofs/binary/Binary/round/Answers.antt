@@ -9,7 +9,7 @@ use Rattle.exact.proofs.binary.Binary.round.Goals as goal
 pub returns-then-shift-gt63 : goal.returns-then-shift-gt63
 returns-then-shift-gt63 c = let far : 64 ≤ c.args.self.shift = omega arith in nearest_small c.args.self.numerator (2 ^ c.args.self.shift) (omega (arith, pow_mono far))
 
--- what the machine rounds is the fraction
+-- the code rounds this fraction
 is : (c : goal.After-round) → c.round.result ≡ nearest_whole (over (pos c.args.self.numerator) (2 ^ c.args.self.shift))
 is c =
     let n = c.args.self.numerator in
@@ -20,7 +20,7 @@ is c =
     let sum : pos (n / 2 ^ k) *ℤ pos (2 ^ k) +ℤ pos (n - n / 2 ^ k * 2 ^ k % 2 ^ 64) ≡ pos n = omega (arith, ints) in
     cc (c.round.ensures, whole, divisor, sum)
 
--- and no less than 0
+-- and the result is no less than 0
 natural : (c : goal.After-round) → pos 0 ≤ℤ c.round.result
 natural c = rw (is c) (nearest_natural c.args.self.numerator (2 ^ c.args.self.shift) (pow_pos c.args.self.shift))
 

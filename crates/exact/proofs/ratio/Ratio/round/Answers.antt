@@ -4,7 +4,7 @@ use Rattle.exact.proofs.Nearness.{rounding}
 use Rattle.exact.proofs.Products.{whole_and_rest}
 use Rattle.exact.proofs.ratio.Ratio.round.Goals as goal
 
--- the whole and the rest that the machine finds are the number again
+-- the quotient and the rest that the code computes give back the numerator
 parts : (c : goal.After-round) → c.div_euclid-whole.result *ℤ pos c.args.self.divisor +ℤ c.rem_euclid-rest.result ≡ c.args.self.numerator
 parts c =
     let numerator : FitsSigned w64 c.args.self.numerator = search rules in
