@@ -1,4 +1,4 @@
-//! Each refusal of a building, of a factor row and of a note, and each field at the ends of its range and one beyond.
+//! Tests of each refusal of a building, a factor row and a note, and of each field at its range's ends and one beyond.
 use domain::{Factor, FactorNumbers};
 use feed::{Head, Note, read_building, read_row};
 use refusals::Refusal;
@@ -10,12 +10,12 @@ const BUILDING: [u8; 18] = [18, 0, 1, 0, 0x10, 0x27, 0, 0, 50, 0, 2, 0, 2, 0, 1,
 // code 7, amount 7,000,000, unit 1
 const FACTOR: [u8; 14] = [14, 0, 2, 0, 7, 0, 0, 0, 0xC0, 0xCF, 0x6A, 0, 1, 0];
 
-// The number by which reading is refused, as the documents have it; none for a value.
+// The number by which reading is refused; none for a value.
 fn refused<T: Drop>(answer: Result<T, Refusal>) -> Option<u8> {
     answer.err().map(Refusal::number)
 }
 
-// Writes the field of this many bytes at this offset.
+// Writes a field of the given width in bytes at the given offset.
 fn put(note: &mut [u8], at: usize, width: usize, value: u32) {
     let field = note.iter_mut().skip(at).take(width);
     for (byte, new) in field.zip(value.to_le_bytes()) {
@@ -25,7 +25,7 @@ fn put(note: &mut [u8], at: usize, width: usize, value: u32) {
 
 #[test]
 fn a_building(rt: HostRuntime) {
-    // offset and width of a field, its value, and the number by which it is refused
+    // The offset and width of a field, its value, and the number by which it is refused.
     let cases: [(usize, usize, u32, Option<u8>); 29] = [
         (4, 4, 0, Some(4)),
         (4, 4, 1, None),
@@ -87,7 +87,7 @@ fn a_factor_row(rt: HostRuntime) {
     }
 }
 
-// The smallest number is told: a wrong kind before a wrong length, and that before a field out of range.
+// The smallest number is reported: a wrong kind before a wrong length, and that before a field out of range.
 #[test]
 fn the_smallest_number(rt: HostRuntime) {
     let short = b"\x08\0\x01\0\0\0\0\0";
@@ -102,10 +102,11 @@ fn the_smallest_number(rt: HostRuntime) {
     assert_eq!(rt; refused(Head::read(b"\x04\0\x01\0")), None);
 }
 
-// Notes of every kind that are too long or too short, and of kinds that there are not; trailing bytes do not make up for it.
+// Notes of every kind that are too long or too short, and notes of unknown kinds. Trailing bytes do not make up for a
+// short length.
 #[test]
 fn every_kind(rt: HostRuntime) {
-    // kind, length, and the number by which it is refused
+    // The kind, the length, and the number by which the note is refused.
     let cases: [(u8, u8, Option<u8>); 15] = [
         (0, 18, Some(2)),
         (6, 36, Some(2)),
@@ -131,7 +132,7 @@ fn every_kind(rt: HostRuntime) {
     }
 }
 
-// What comes after the first note plays no part.
+// Bytes after the first note have no effect.
 #[test]
 fn trailing_bytes(rt: HostRuntime) -> Result<(), Fail> {
     let bytes = b"\x12\0\x01\0\x10\x27\0\0\x32\0\x02\0\x03\0\x01\0\x09\0\xFF\xFF";

@@ -1,4 +1,4 @@
-//! Tests of the feed and of its listing, against bytes and lines that were set down apart from the code.
+//! Tests of the feed, its listing and its report, against bytes and lines that were written apart from the code.
 #![tactic(auto)]
 
 #[cfg(test)]

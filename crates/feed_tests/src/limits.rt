@@ -1,4 +1,4 @@
-//! The fullest feeds, for which no clause says that memory suffices; and reading and writing that fail.
+//! Tests of the largest feeds, for which no clause says that memory suffices, and of reading and writing that fail.
 use feed::MAX_BYTES;
 use listing::write_listing;
 use pages::Figure;
@@ -10,7 +10,7 @@ use std::test::Fail;
 // area 10000, life 50, region 2, sun 2, type 1, reference 0
 const BUILDING: [u8; 18] = [18, 0, 1, 0, 0x10, 0x27, 0, 0, 50, 0, 2, 0, 2, 0, 1, 0, 0, 0];
 
-// of a kind that there is not
+// A note of an unknown kind.
 const UNKNOWN: [u8; 4] = [4, 0, 9, 0];
 
 // code 7, amount 7,000,000, unit 1
@@ -19,7 +19,7 @@ const FACTOR: [u8; 14] = [14, 0, 2, 0, 7, 0, 0, 0, 0xC0, 0xCF, 0x6A, 0, 1, 0];
 // number 1, revision 1
 const WITHDRAWAL: [u8; 12] = [12, 0, 5, 0, 1, 0, 0, 0, 1, 0, 0, 0];
 
-// A feed of 65,536 bytes: a building, so many of these notes, and zeros, from which no note can be told.
+// A feed of 65,536 bytes: a building, `count` copies of a note, and zeros, which frame no note.
 fn full_feed(heap: Global, note: &[u8], count: usize) -> Result<Vec<u8>, AllocError> {
     let mut feed = Vec::new(heap);
     feed.extend_from_slice(&BUILDING)?;
@@ -30,7 +30,7 @@ fn full_feed(heap: Global, note: &[u8], count: usize) -> Result<Vec<u8>, AllocEr
     Ok(feed)
 }
 
-// Its listing, as the documents have it: the notes have this length and these words.
+// The listing of such a feed. Its notes have the given length and words.
 fn listing_lines(heap: Global, count: usize, length: usize, words: &str) -> io::Result<Vec<u8>> {
     let mut text = Vec::new(heap);
     text.write_all(b"1 at=0 building area=10000 life=50 region=2 sun=2 type=1 reference=0\n")?;
@@ -46,7 +46,8 @@ fn listing_lines(heap: Global, count: usize, length: usize, words: &str) -> io::
     Ok(text)
 }
 
-// Its report: the sends from the place `first` on are refused by this number, and the zeros by 1, so that nothing counts.
+// The report of such a feed. The sends from `first` on are refused by the given number, and the zeros by 1, so that
+// nothing counts.
 fn report_lines(heap: Global, first: usize, count: usize, number: u8) -> io::Result<Vec<u8>> {
     let mut text = Vec::new(heap);
     for place in first..=count {
@@ -93,7 +94,7 @@ fn of_factor_rows(rt: HostRuntime) -> Result<(), Fail> {
     Ok(())
 }
 
-// The first is let in, and the others are the same once more.
+// The first is let in, and the others repeat it.
 #[test]
 fn of_withdrawals(rt: HostRuntime) -> Result<(), Fail> {
     let heap = rt.alloc();
@@ -140,7 +141,7 @@ fn of_22_headings(rt: HostRuntime) -> Result<(), Fail> {
     Ok(())
 }
 
-// Gives its bytes, and then fails.
+// A reader that gives its bytes, and then fails.
 #[derive(Drop)]
 struct BrokenReader<'a> {
     bytes: &'a [u8],
@@ -155,7 +156,7 @@ impl Read for BrokenReader<'_> {
     }
 }
 
-// Takes so many bytes, and then fails.
+// A writer that takes `room` bytes, and then fails.
 #[derive(Drop)]
 struct BrokenWriter {
     room: usize,
@@ -176,7 +177,7 @@ impl Write for BrokenWriter {
     }
 }
 
-// What was read before the error would have a report of its own.
+// The bytes before the error have a report of their own, which must not be written.
 #[test]
 fn an_error_in_mid_stream(rt: HostRuntime) {
     let heap = rt.alloc();

@@ -1,4 +1,4 @@
-//! Listings, written by hand from the format.
+//! Tests of listings, which were written by hand from the format.
 use listing::listing;
 use std::test::Fail;
 
@@ -8,7 +8,7 @@ fn of_no_bytes(rt: HostRuntime) -> Result<(), Fail> {
     Ok(())
 }
 
-// Every kind that is taken, some with fields at their largest; every refusal of a note; and last a note that says 27 bytes where 15 are left.
+// Every kind of note, some with fields at their largest; every refusal of a note; and last a note cut short.
 #[test]
 fn of_a_damaged_feed(rt: HostRuntime) -> Result<(), Fail> {
     let feed = b"\
@@ -38,7 +38,7 @@ fn of_a_damaged_feed(rt: HostRuntime) -> Result<(), Fail> {
     Ok(())
 }
 
-// A building of 50 years, its own factors, and entries: each way of reckoning, and each refusal for content.
+// A building of 50 years, its own factors, and entries: each calculation method, and each refusal for content.
 #[test]
 fn of_booked_entries(rt: HostRuntime) -> Result<(), Fail> {
     let feed = b"\

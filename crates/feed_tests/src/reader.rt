@@ -1,4 +1,4 @@
-//! The sample feed, cut short at every length.
+//! Tests of reading the sample feed, cut short at every length.
 use feed::Reader;
 use refusals::Refusal;
 use std::test::Fail;
@@ -14,7 +14,7 @@ const FEED: &[u8; 198] = b"\
 \x1c\0\x03\0\x04\0\0\0\0\0\0\0\x16\0\0\0\x09\0\0\0\x01\0\0\0\0\0\0\0\
 \x1c\0\x03\0\x05\0\0\0\0\0\0\0\x14\0\0\0\x08\0\0\0\xe0\x93\x04\0\0\0\0\0";
 
-// where its notes end
+// Where the notes end.
 const ENDS: [usize; 9] = [18, 32, 46, 74, 86, 114, 142, 170, 198];
 
 #[test]
@@ -38,7 +38,7 @@ fn cut_at_every_length(rt: HostRuntime) -> Result<(), Fail> {
             end = next;
             notes = place;
         }
-        // refused by number 1, as the documents have it
+        // Refused by `Unframed` (1).
         let expected = if n == end { Ok(None) } else { Err(1) };
         for _ in 0..3 {
             assert_eq!(rt; reader.next().map_err(Refusal::number), expected);

@@ -1,4 +1,4 @@
--- The worked figures hold: most are what the definitions compute to.
+-- The worked figures hold; most of them are what the definitions compute to.
 use Rattle.std.proofs.Common.{rules}
 use lib.Ieee.{round}
 use Rattle.exact.specs.Rounding.{nearest_whole}

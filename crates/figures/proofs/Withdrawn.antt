@@ -21,7 +21,7 @@ lists y factor_map {sends} {roll} {n} {bs} is sent few =
     subst (λ m. IsRoll y factor_map (bs ∷ sends) (m ∷ roll)) sent.says (on_roll bs is (λ u. none_fails (content_conditions y factor_map bs) sent.fit u.0 u.1) (inr few))
 
 module _ (y : ℕ) (factor_map : FactorMap) (e : Entry) (cs : Conditions) (kept : AllHold cs) where
-  -- what is asked of a note beside another in a book
+  -- the conditions on a note, with another one in the book
   abbrev book_conditions : RollNote → RollNote → Conditions
   book_conditions n m = placing_conditions (note_place y factor_map n ∷ []) (note_place y factor_map m)
 

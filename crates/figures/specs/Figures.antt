@@ -1,4 +1,4 @@
--- Worked figures, which the definitions have to give.
+-- The worked figures.
 use Rattle.std.specs.Prelude.{◌≡◌, ℕ, false, List, [], ◌∷◌, pos, neg_ℤ}
 use Rattle.std.specs.Float.{binary64}
 use Rattle.std.specs.Float.Ieee.{round}
@@ -13,22 +13,24 @@ use Rattle.booking.specs.Quantities.{IsQuantityInRange, booked_thousandths}
 use Rattle.figures.specs.Headings.{Prints}
 use Rattle.figures.specs.Withdrawals.{IsRefusedBy, NoneCounts, CountsAt}
 
--- an entry of so many counted thousandths
+-- an entry of the given counted thousandths
 abbrev pub entry_of : (row span code thousandths : ℕ) → Entry
 entry_of row span code thousandths =
     record { head = record { row = row; span = span; code = code }; quantity = Counted thousandths }
 
--- it is booked, in a building of y years, at so many grams
+-- the entry can be booked, in a building with a life of y years, at the given grams
 abbrev pub ComesTo : ℕ → FactorMap → Entry → ℕ → Type 0
 ComesTo y factor_map e grams = AllHold (booking_conditions y factor_map e) × ((booked_line y factor_map e).grams ≡ grams)
 
--- the binary64 number nearest to n / d is booked at so many thousandths
+-- the binary64 number nearest to n / d is booked at the given thousandths
 abbrev pub Measures : (n d thousandths : ℕ) → Type 0
 Measures n d thousandths =
     IsQuantityInRange (Measured (round binary64 false n d)) × (booked_thousandths (Measured (round binary64 false n d)) ≡ thousandths)
 
--- a thousandth of a tonne at 5,000 and at 4,999; 0.0625 and 0.0624 measured; a kilogram of R-134a in equipment of 15 years; 30 tonnes over 500 kilometres at 1,290; recycled material, the new material being at 5;
--- three headings of 400 grams, and two of 500 and -1,000; of a number that is withdrawn at revision 2, an entry at 1 that is refused, what counts after it, and what counts after one at 3
+-- a thousandth of a tonne at factors of 5,000 and 4,999; 0.0625 and 0.0624 measured; a kilogram of R-134a in equipment
+-- that lasts 15 years; 30 tonnes over 500 kilometres at a factor of 1,290; recycled material where the new one has a
+-- factor of 5; three headings of 400 grams, and two of 500 and -1,000; and, after a withdrawal at revision 2, how an
+-- entry at 1 is refused, that nothing counts then, and that an entry at 3 counts
 abbrev pub figures : List (Type 0)
 figures =
     ComesTo 1 (λ c. has (factor_per 5000 1)) (entry_of 1 0 7 1) 1
@@ -45,7 +47,7 @@ figures =
     ∷ CountsAt 1 3
     ∷ []
 
--- each of them holds
+-- each fact holds
 abbrev pub AllTrue : List (Type 0) → Type 0
 AllTrue [] = Unit {0}
 AllTrue (P ∷ ps) = P × AllTrue ps

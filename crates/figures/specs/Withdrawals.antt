@@ -1,4 +1,4 @@
--- A number that is withdrawn at revision 2, and entries under it at other revisions.
+-- A number that is withdrawn at revision 2, and entries with that number at other revisions.
 use Rattle.std.specs.Prelude.{◌≡◌, ℕ, List, [], ◌∷◌, Some, None, Ok, Result}
 use Rattle.std.specs.Result.{IsErrAnd}
 use Rattle.refusals.specs.declared.refusal.Refusal.{Refusal}
@@ -13,16 +13,16 @@ use Rattle.sheet.specs.States.{State, new_state, content_conditions, Sends}
 abbrev pub withdrawal : RollNote
 withdrawal = record { number = 1; revision = 2; entry = None }
 
--- an entry under the same number
+-- an entry with the same number
 abbrev pub entry_at : (revision : ℕ) → Entry → RollNote
 entry_at revision e = record { number = 1; revision = revision; entry = Some e }
 
--- bytes by which a note is sent, its content being fit in a building with a life of y years, at the factors of a map
+-- the bytes send the note, and its content is fit in a building with a life of y years, at the factors of a map
 pub record IsSentAs (y : ℕ) (factor_map : FactorMap) (note : RollNote) (bs : List ℕ) : Type 0 where
   pub fit : AllHold (content_conditions y factor_map bs)
   pub says : note_of_bytes bs ≡ note
 
--- a sheet that is just opened lets the withdrawal in, and then refuses a fit entry at this revision by the number n
+-- a sheet that was just opened lets the withdrawal in, and then refuses any fit entry at this revision by the number n
 abbrev pub IsRefusedBy : (revision n : ℕ) → Type 0
 IsRefusedBy revision n =
     (b : BuildingNumbers) (factor_map : FactorMap) (e : Entry) (gone late : List ℕ) (s t : State) (r : Result (Unit {0}) Refusal)
@@ -30,14 +30,14 @@ IsRefusedBy revision n =
     → IsSentAs b.life factor_map (entry_at revision e) late → Sends s late r t
     → IsErrAnd r (λ f. refusal_number f ≡ n)
 
--- after the withdrawal, and an entry at this revision that comes late, nothing counts
+-- after the withdrawal and a late entry at this revision, nothing counts
 abbrev pub NoneCounts : (revision : ℕ) → Type 0
 NoneCounts revision =
     (y : ℕ) (factor_map : FactorMap) (e : Entry) (gone late : List ℕ)
     → IsSentAs y factor_map withdrawal gone → IsSentAs y factor_map (entry_at revision e) late
     → AreCounted y factor_map (late ∷ (gone ∷ [])) []
 
--- and where a third note, an entry at this revision, comes after those two, it counts
+-- after those two, a third note, an entry at this revision, counts
 abbrev pub CountsAt : (late revision : ℕ) → Type 0
 CountsAt l revision =
     (y : ℕ) (factor_map : FactorMap) (e new : Entry) (gone late next : List ℕ)

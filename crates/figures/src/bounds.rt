@@ -1,10 +1,10 @@
-//! Figures at the ends of the ranges, worked out by hand and compared by booking them.
+//! Figures at the ends of the ranges, worked out by hand and compared with what is booked.
 use booking::{book, thousandths};
 use domain::{Building, BuildingNumbers, Entry, EntryHead, FactorNumbers, FactorRow, Quantity};
 use factors::{BuiltIn, FactorSource, ProjectList};
 use refusals::Refusal;
 
-// The grams of an entry in a building of so many years, or the number by which it is refused, as the documents have it.
+// The grams of an entry in a building with the given life in years, or the number of its refusal.
 fn outcome(years: u16, row: u16, quantity: Quantity, amount: u32) -> Result<u64, u8> {
     let numbers = BuildingNumbers {
         area: 10_000,
@@ -53,7 +53,7 @@ fn the_largest_entry(rt: HostRuntime) {
     assert_eq!(rt; outcome(2, 11, most, 1_000_000_000), Err(10));
 }
 
-// What lies beside the codes of the built-in table, and the ends of a code's width.
+// The neighbours of the built-in table's codes, and the largest code.
 #[test]
 fn no_other_code(rt: HostRuntime) {
     for code in [0, 2, 100, 116, 1_000_101, u32::MAX] {

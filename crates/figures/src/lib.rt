@@ -1,4 +1,4 @@
-//! Figures worked out by hand: those that are proved of the rules, and those that are compared by running the code.
+//! Worked figures: those that are proved of the rules, and those that are compared by running the code.
 #![tactic(auto)]
 
 #[cfg(test)]

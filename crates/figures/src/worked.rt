@@ -1,8 +1,8 @@
-//! The worked figures that the rules have to give, whatever the code does.
+//! The worked figures that are proved of the rules.
 ghost use Rattle.std.specs.Prelude.{◌≡◌, length};
 ghost use Rattle.figures.specs.Figures.{figures, AllTrue};
 
-/// How many worked figures there are. That all of them hold is what this call promises.
+/// The number of worked figures. The contract states that each of them holds.
 pub fn worked_figures() -> usize
     ensures held { AllTrue figures }
     ensures count { result ≡ length figures }

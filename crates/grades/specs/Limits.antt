@@ -1,10 +1,10 @@
--- The limits of the two grades, in tenths of a kilogram per square metre and year. The figures are those of the zero-carbon draft.
+-- The limits of the two grades, in tenths of a kilogram per square metre and year, from the zero-carbon draft.
 use Rattle.std.specs.Prelude.{ℕ, ◌-◌, Bool, true, if◌then◌else◌, ◌&&◌, ◌==◌, List, [], ◌∷◌, slice_index, Option, Some, None}
 use Rattle.domain.specs.declared.building.BuildingNumbers.{BuildingNumbers}
 use Rattle.domain.specs.Numbers.{region_number}
 use Rattle.grades.specs.declared.limits.LimitRow.{LimitRow}
 
--- the limits of a region, one for each type of building; of one sun class, or of every class where none is named
+-- the limits of a region, one for each type of building; for one sun class, or for all if none is named
 pub record Limits : Type 0 where
   pub region : ℕ
   pub sun : Option ℕ
@@ -13,25 +13,25 @@ pub record Limits : Type 0 where
 abbrev pub region_limits : ℕ → Option ℕ → List ℕ → Limits
 region_limits region sun by_type = record { region = region; sun = sun; by_type = by_type }
 
--- a row of the program's tables as limits
+-- a row of the code's tables
 abbrev pub limits_of_row : LimitRow → Limits
 limits_of_row row = record { region = region_number row.region; sun = row.sun; by_type = row.limits }
 
--- whether limits of a sun class are for the class c
+-- whether limits apply to the sun class c
 abbrev pub is_for_sun : Option ℕ → ℕ → Bool
 is_for_sun None c = true
 is_for_sun (Some sun) c = sun == c
 
--- whether limits are for a building
+-- whether limits apply to a building
 abbrev pub is_for : Limits → BuildingNumbers → Bool
 is_for l b = l.region == b.region && is_for_sun l.sun b.sun
 
--- the limit of a building: from the first limits that are for it, if there are any
+-- the limit of a building, from the first limits that apply to it; none where no limits do
 unfoldable pub limit : List Limits → BuildingNumbers → Option ℕ
 limit [] b = None
 limit (l ∷ ls) b = if is_for l b then Some (slice_index l.by_type (b.building_type - 1)) else limit ls b
 
--- of the low-carbon grade; in each row: homes, small and large offices, small and large hotels, shops, hospitals, schools
+-- the low-carbon limits; in each row: homes, small and large offices, small and large hotels, shops, hospitals, schools
 unfoldable pub low_carbon_limits : List Limits
 low_carbon_limits =
     region_limits 1 None (230 ∷ 230 ∷ 250 ∷ 300 ∷ 350 ∷ 650 ∷ 550 ∷ 150 ∷ []) ∷
@@ -40,7 +40,7 @@ low_carbon_limits =
     region_limits 4 None (230 ∷ 230 ∷ 300 ∷ 360 ∷ 450 ∷ 850 ∷ 650 ∷ 250 ∷ []) ∷
     region_limits 5 None (180 ∷ 180 ∷ 220 ∷ 280 ∷ 300 ∷ 630 ∷ 450 ∷ 130 ∷ []) ∷ []
 
--- of the near-zero-carbon grade, in the same order; a region has no limit in a sun class that is not here, as the draft has no figure for it
+-- the near-zero-carbon limits, in the same order; a region has no limit in a sun class that is not listed
 unfoldable pub near_zero_limits : List Limits
 near_zero_limits =
     region_limits 1 (Some 1) (140 ∷ 160 ∷ 190 ∷ 200 ∷ 240 ∷ 490 ∷ 405 ∷ 100 ∷ []) ∷

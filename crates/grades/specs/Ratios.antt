@@ -1,7 +1,7 @@
--- The ratios of the two grades: by how many per cent a building has to lie below its reference. The figures are those of the zero-carbon draft.
+-- The ratios of the grades, from the zero-carbon draft: by how many per cent a building has to be below its reference.
 use Rattle.std.specs.Prelude.{ℕ, ◌-◌, List, [], ◌∷◌, slice_index}
 
--- from the first region to the last
+-- in the order of the regions
 abbrev pub low_carbon_ratios : List ℕ
 low_carbon_ratios = 40 ∷ 35 ∷ 30 ∷ 30 ∷ 30 ∷ []
 

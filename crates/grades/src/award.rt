@@ -1,4 +1,4 @@
-//! Which grade a building is given.
+//! The grade of a building.
 ghost use Rattle.std.specs.Prelude.{◌≡◌, ℕ, ◌↔◌, IsTrue};
 ghost use Rattle.domain.specs.Buildings.{numbers_of};
 ghost use Rattle.totals.specs.Sums.{sums_of};
@@ -6,14 +6,14 @@ ghost use Rattle.grades.specs.Grades.{grade_number, energy_emissions, MeetsGrade
 ghost use Rattle.totals.specs.Sizes.{IsWithinTotals};
 
 use crate::demands::meets;
+use crate::energy_emissions::energy_emissions;
 use crate::grading::Grade;
 use crate::limits::{low_carbon_limit, near_zero_limit};
 use crate::ratios::{low_carbon_ratio, near_zero_ratio};
-use crate::energy_emissions::energy_emissions;
 use domain::Building;
 use totals::Totals;
 
-/// The highest grade whose demands the building meets with these totals.
+/// The highest grade that the building meets, by its limit or its ratio, at the grams of energy in these totals.
 #[tactic(auto, using(crate::proofs::Awarding::one_grade))]
 pub fn grade(building: &Building, totals: Totals) -> Grade
     ensures awarded { IsAwarded (numbers_of building.now) (energy_emissions (sums_of totals)) (grade_number result) }

@@ -6,7 +6,7 @@ ghost use Rattle.totals.specs.Sizes.{IsWithinTotals};
 
 use domain::{Building, BuildingType};
 
-// Tenths of a kilogram per square metre are so many grams per tenth of a square metre.
+// A tenth of a kilogram per square metre, in grams per tenth of a square metre.
 const GRAMS: u64 = 10;
 
 // The reference of a building that has none.
@@ -15,8 +15,13 @@ const NO_REFERENCE: u16 = 0;
 // The whole of a reference, in per cent.
 const WHOLE: u16 = 100;
 
-// Whether the limit holds or the ratio does.
-pub(crate) fn meets(limit: Option<u16>, ratio: u16, building: &Building, energy_emissions: i64) -> bool
+// Whether the building meets the limit or the ratio.
+pub(crate) fn meets(
+    limit: Option<u16>,
+    ratio: u16,
+    building: &Building,
+    energy_emissions: i64,
+) -> bool
     requires share { ratio ≤ 100 }
     requires within { IsWithinTotals energy_emissions }
     ensures { IsTrue result ↔ Meets limit ratio (numbers_of building.now) energy_emissions }
@@ -24,7 +29,7 @@ pub(crate) fn meets(limit: Option<u16>, ratio: u16, building: &Building, energy_
     limit_holds(limit, building, energy_emissions) || ratio_holds(ratio, building, energy_emissions)
 }
 
-// Where there is no limit, none holds.
+// Whether the emissions are within the limit; false where there is none.
 fn limit_holds(limit: Option<u16>, building: &Building, energy_emissions: i64) -> bool
     ensures { IsTrue result ↔ LimitHolds limit (numbers_of building.now) energy_emissions }
 {
@@ -34,7 +39,7 @@ fn limit_holds(limit: Option<u16>, building: &Building, energy_emissions: i64) -
     }
 }
 
-// Homes, and buildings with no reference, have only the limit.
+// Whether the emissions meet the ratio. Homes and buildings with no reference have only the limit.
 fn ratio_holds(ratio: u16, building: &Building, energy_emissions: i64) -> bool
     requires share { ratio ≤ 100 }
     requires within { IsWithinTotals energy_emissions }
@@ -43,14 +48,14 @@ fn ratio_holds(ratio: u16, building: &Building, energy_emissions: i64) -> bool
     has_reference(building) && is_below(ratio, building, energy_emissions)
 }
 
-// Whether there is a reference that the building is compared with.
+// Whether the building has a reference that its emissions are compared with.
 fn has_reference(building: &Building) -> bool
     ensures { IsTrue result ↔ ((numbers_of building.now).building_type ≢ 1) × (building.now.reference ≢ 0) }
 {
     building.building_type != BuildingType::Residential && building.reference != NO_REFERENCE
 }
 
-// Whether the weight lies so many per cent below the reference, or more.
+// Whether the emissions are the given per cent below the reference, or further.
 fn is_below(ratio: u16, building: &Building, energy_emissions: i64) -> bool
     requires share { ratio ≤ 100 }
     requires within { IsWithinTotals energy_emissions }
@@ -62,7 +67,7 @@ fn is_below(ratio: u16, building: &Building, energy_emissions: i64) -> bool
     i64::from(WHOLE) * energy_emissions <= left as i64
 }
 
-// An intensity over the building's area and its years, in grams.
+// An intensity, in tenths of a kilogram per square metre and year, over the building's area and life: in grams.
 fn grams_over_life(building: &Building, intensity: u16) -> u64
     ensures value { result ≡ grams_over_life (numbers_of building.now) intensity }
     ensures within { result ≤ 10000000000000000 }

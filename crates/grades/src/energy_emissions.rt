@@ -1,4 +1,4 @@
-//! What the energy of a building's use weighs.
+//! The emissions of the energy that a building's use takes.
 ghost use Rattle.std.specs.Prelude.{◌≡◌, ◌≢◌, ◌||◌, ◌==◌};
 ghost use Rattle.booking.specs.Rows.{row_number};
 ghost use Rattle.totals.specs.Sums.{sums_of};
@@ -8,7 +8,7 @@ ghost use Rattle.totals.specs.Sizes.{IsWithinTotals};
 use booking::Row;
 use totals::Totals;
 
-// The grams of what is burnt and bought in use, less the renewables, which stand in their row with a minus.
+// The grams of energy burnt and bought in use, less the renewables in use, whose grams are below zero.
 pub(crate) fn energy_emissions(totals: Totals) -> i64
     ensures value { result ≡ energy_emissions (sums_of totals) }
     ensures within { IsWithinTotals result }
@@ -19,7 +19,7 @@ pub(crate) fn energy_emissions(totals: Totals) -> i64
     burnt + bought + renewables
 }
 
-// What stands in two rows together.
+// The grams of two rows together.
 fn both(totals: Totals, equipment: Row, users: Row) -> i64
     requires { row_number equipment ≢ row_number users }
     ensures value { result ≡ (sums_of totals).grams (λ row. row == row_number equipment || row == row_number users) }
@@ -30,7 +30,7 @@ fn both(totals: Totals, equipment: Row, users: Row) -> i64
     by_equipment + by_users
 }
 
-// What stands in one row.
+// The grams of one row.
 fn grams(totals: Totals, row: Row) -> i64
     ensures value { result ≡ (sums_of totals).grams (λ r. r == row_number row) }
     ensures within { IsWithinTotals result }

@@ -1,12 +1,15 @@
-//! The grades.
+//! The grades and their numbers.
 ghost use Rattle.std.specs.Prelude.{◌≡◌};
 ghost use Rattle.grades.specs.Grades.{grade_number};
 
-/// What a building is called for its use of energy, the higher the better.
+/// A building's grade by the energy of its use, as the zero-carbon draft has them. A higher number is a better grade.
 #[derive(Clone, Copy, Debug, PartialEq, Eq)]
 pub enum Grade {
+    /// Neither low-carbon nor near-zero-carbon.
     Ungraded = 0,
+    /// Low-carbon.
     LowCarbon = 1,
+    /// Near-zero-carbon.
     NearZero = 2,
 }
 

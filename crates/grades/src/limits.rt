@@ -1,12 +1,12 @@
-//! The limits of the two grades, and which of them a building has.
+//! The limits of the two grades, from the zero-carbon draft, and which of them applies to a building.
 ghost use Rattle.std.specs.Prelude.{◌≡◌, map};
 ghost use Rattle.domain.specs.Buildings.{numbers_of};
 ghost use Rattle.grades.specs.Limits.{is_for, limit, low_carbon_limits, near_zero_limits, limits_of_row};
 
 use domain::{Building, Region};
 
-// The limits of a region, in tenths of a kilogram per square metre and year: one for each type of building, in the order of their numbers.
-// Where no sun class is named, they are those of every class.
+// The limits of a region, in tenths of a kilogram per square metre and year: one for each type of building, in the
+// order of their numbers. With no sun class they apply to every class.
 #[derive(Clone, Copy, Debug, PartialEq, Eq)]
 struct LimitRow {
     region: Region,
@@ -42,7 +42,7 @@ const LOW_CARBON_LIMITS: [LimitRow; 5] = [
     },
 ];
 
-// A region has no limit in a sun class that is not here: the zero-carbon draft has a stroke there, or nothing.
+// A region has no limit in a sun class that is not here: the zero-carbon draft has a stroke there, or does not list it.
 const NEAR_ZERO_LIMITS: [LimitRow; 13] = [
     LimitRow {
         region: Region::SevereCold,
@@ -125,7 +125,7 @@ pub(crate) fn near_zero_limit(building: &Building) -> Option<u16>
     limit(&NEAR_ZERO_LIMITS, building)
 }
 
-// The limit in the first row that is for the building.
+// The limit in the first row that applies to the building.
 #[tactic(auto, unfolding(crate::specs::Limits::limit))]
 fn limit(table: &[LimitRow], building: &Building) -> Option<u16>
     ensures { result ≡ limit (map limits_of_row table.now) (numbers_of building.now) }

@@ -1,4 +1,4 @@
-//! The ratios of the two grades: by how many per cent a building has to lie below its reference.
+//! The ratios of the grades, from the zero-carbon draft: by how many per cent a building has to be below its reference.
 ghost use Rattle.std.specs.Prelude.{◌≡◌, ◌≤◌};
 ghost use Rattle.domain.specs.Numbers.{region_number};
 ghost use Rattle.grades.specs.Ratios.{ratio, low_carbon_ratios, near_zero_ratios};

@@ -17,7 +17,7 @@ fit_only notes a b (row {note = n} {r = x} reads more) (passed f reads' more') =
 fit_only notes a b (passed {note = n} f reads more) (row {r = y} reads' more') = absurd (row_once n (Err f) (Ok y) reads reads')
 fit_only notes a b (passed {notes = ns} f reads more) (passed f' reads' more') = fit_only ns a b more more'
 
--- what a feed begins with gives one basis
+-- the basis of a feed is unique
 pub basis_only : (feed : List ℕ) (a b : Option Building) (rows rows' : List FactorRow) → BeginsWith feed a rows → BeginsWith feed b rows' → basis_with a rows ≡ basis_with b rows'
 basis_only feed a b rows rows' (building {notes = ns} {left = l} x opens fit) (building {notes = ns'} {left = l'} y opens' fit') =
     let life : x.life ≡ y.life = ap (λ n. n.life) (building_once feed (Ok x) (Ok y) opens.building opens'.building) in

@@ -1,4 +1,4 @@
--- The factor rows that are not refused.
+-- Keeping the factor rows that are not refused.
 use Rattle.std.proofs.Common.{◌≡◌, ℕ, ◌+◌, ◌<◌, List, [], ◌∷◌, ◌++◌, length, get_or, take, Ok, Err, Result, refl, ap, ◌∙◌, append-nil}
 use Rattle.std.proofs.lemmas.List.{take_more}
 use Rattle.refusals.specs.declared.refusal.Refusal.{Refusal}
@@ -6,7 +6,7 @@ use Rattle.domain.specs.declared.factor.FactorRow.{FactorRow}
 use Rattle.feed.specs.FactorRows.{ReadsEachRow, none as none_read, one as one_read}
 use Rattle.listing.specs.Bases.{KeepsFitRows, none, row, passed}
 
--- the rows in answers that are no refusals
+-- the rows among answers
 abbrev pub fit : List (Result FactorRow Refusal) → List FactorRow
 fit [] = []
 fit (Ok r ∷ answers) = r ∷ fit answers
@@ -26,7 +26,7 @@ module _ (answers : List (Result FactorRow Refusal)) (i : ℕ) (d : Result Facto
   next : fit (take (i + 1) answers) ≡ fit (take i answers) ++ fit (get_or answers i d ∷ [])
   next = ap fit (take_more answers i d less) ∙ fit_more (take i answers) (get_or answers i d)
 
-  -- one row more, and one refusal more
+  -- one more row, and one more refusal
   pub row_more : {r : FactorRow} → get_or answers i d ≡ Ok r → fit (take (i + 1) answers) ≡ fit (take i answers) ++ (r ∷ [])
   row_more is = next ∙ ap (λ a. fit (take i answers) ++ fit (a ∷ [])) is
 

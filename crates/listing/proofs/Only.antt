@@ -26,7 +26,7 @@ use Rattle.listing.specs.Bases.{Basis, unbooked, by, basis_with}
 use Rattle.listing.specs.Listings.{IsLastLine, Lists, note, last, ListsFeed}
 use Rattle.listing.proofs.Begun.{basis_only}
 
--- reading refuses for want of no factor, so its refusals name no codes
+-- reading never refuses by `FactorLacking` (8), so its refusals name no codes
 names_none : (bs : List ℕ) (f : Refusal) → Reads {X = Note} IsAnyKind Says bs (Err f) → refusal_codes f ≡ []
 names_none bs f least = no_codes f (absent_not_least (reading_conditions IsAnyKind bs) lack_number refl least)
 
@@ -36,7 +36,7 @@ refused_only bs f g s t same a b =
     (λ unframed. a.unframed unframed ∙ ap (λ x. codes "unframed" ++ (spaced_field (codes "left", length bs) ++ (codes " " ++ x))) same ∙ sym (b.unframed unframed))
     (framed_or_not bs)
 
--- what is said of a line, by its numbers
+-- the text of a line, by its numbers
 line_text_same : LineNumbers → List ℕ
 line_text_same b = codes "thousandths=" ++ (decimal b.thousandths ++ (codes " grams=" ++ signed_decimal (signed_grams (is_subtracted b.row) b.grams)))
 
@@ -65,7 +65,7 @@ note_only a bytes m n s t says says' p q =
     let booked = booked_only a (entry_of m) p.outcome q.outcome p.books (subst (λ e. IsNoteOutcome a e q.outcome) (sym one.1) q.books) in
     p.text ∙ (λ i. one.0 i ++ booked i) ∙ sym q.text
 
--- what is said of bytes depends on them alone
+-- the text of bytes depends on them alone
 answer_text_only : (a : Basis) (bs s t : List ℕ) (p q : Result Note Refusal) → Reads IsAnyKind Says bs p → Reads IsAnyKind Says bs q → SameAnswer (λ m n. Unit {0}) p q → IsAnswerText a bs p s → IsAnswerText a bs q t → s ≡ t
 answer_text_only a bs s t (Ok m) (Ok n) reads reads' same said said' = note_only a (first_note bs) m n s t reads.1 reads'.1 said said'
 answer_text_only a bs s t (Ok m) (Err g) reads reads' same said said' = absurd same

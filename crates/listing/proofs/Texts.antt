@@ -1,4 +1,4 @@
--- What is said of a note: the same, whatever value its bytes are read as.
+-- The text of a note does not depend on the value that its bytes are read as.
 use Rattle.std.proofs.Common.{◌≡◌, ℕ, List, refl, ap, sym, ◌∙◌, subst, IsSomeAnd}
 use Rattle.feed.specs.declared.note.Note.{Note}
 use Rattle.feed.specs.declared.note.Note.TheVariants.{Building, Factor, Sent}
@@ -8,7 +8,7 @@ use Rattle.feed.specs.NoteTexts.{note_text}
 use Rattle.domain.specs.FieldTexts.{building_text}
 use Rattle.listing.specs.ListingLines.{entry_of}
 
--- bytes give one text and one entry
+-- bytes have one text and one entry
 pub says_one : (note : List ℕ) (m n : Note) → Says note m → Says note n → (note_text m ≡ note_text n) × (entry_of m ≡ entry_of n)
 says_one note (Building b) (Building c) says says' = (ap building_text (says.1 ∙ sym says'.1), refl)
 says_one note (Factor r) (Factor q) says says' = (ap (λ x. note_text (Factor x)) (says.1 ∙ sym says'.1), refl)

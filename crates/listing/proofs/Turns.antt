@@ -1,4 +1,4 @@
--- What a turn of `listing` keeps.
+-- What each turn of `listing` keeps.
 use Rattle.std.proofs.Common.{◌≡◌, ℕ, List, ◌++◌, refl, ap, ◌∙◌}
 use Rattle.feed.specs.declared.reader.Part.{Part}
 use Rattle.feed.specs.declared.reader.Reader.{Reader}
@@ -15,12 +15,12 @@ abbrev pub LinesSoFar : Basis → List ℕ → Reader → List ℕ → Type 0
 LinesSoFar a feed r listing = SoFar (Lists a) 1 0 feed r listing
 
 module _ (a : Basis) {feed : List ℕ} {r : Reader} {listing : List ℕ} (old : SoFar (Lists a) 1 0 feed r listing) where
-  -- one note more, of which a line is pushed
+  -- one more note, whose line is pushed
   pub line_more : (p : Part) (t : Reader) {line pushed longer : List ℕ} → HandsOut r p t → IsPartLine a p line → longer ≡ listing ++ pushed → pushed ≡ line → SoFar (Lists a) 1 0 feed t longer
   line_more p t {line} hands is_line is told =
       one_more (Lists a) old line hands (is ∙ ap (λ l. listing ++ l) told) (λ more h. note (part_bytes p) (rest_of t) line more (hands_note r p t hands) refl is_line h refl)
 
-  -- no note more: the line for what is left comes last
+  -- no more notes: the last line is pushed
   pub last_more : (t : Reader) (left : Part) {line pushed longer : List ℕ} → Stays r t → (IsFramed (rest_of t) → ⊥) → IsRest t left → IsLastLine a left.place left.start (part_bytes left) line → longer ≡ listing ++ pushed → pushed ≡ line → Lists a 1 0 feed longer
   last_more t left stay other is_left is_last is told =
       all (Lists a) (stays (Lists a) old stay) (last other (rw (← is_left.bytes, ← is_left.place, ← is_left.start) is_last)) (is ∙ ap (λ l. listing ++ l) told)

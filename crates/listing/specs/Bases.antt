@@ -1,4 +1,4 @@
--- What the entries of a feed are booked by: its building, and its own factors.
+-- Bases: the building and the factors by which the entries of a feed are booked.
 use Rattle.std.specs.Prelude.{ℕ, List, [], ◌∷◌, Some, None, Ok, Err, vec_items, Option, Result}
 use Rattle.refusals.specs.declared.refusal.Refusal.{Refusal}
 use Rattle.domain.specs.declared.building.Building.{Building}
@@ -10,7 +10,7 @@ use Rattle.factors.specs.Maps.{FactorMap}
 use Rattle.listing.specs.declared.basis.BookingBasis.{BookingBasis}
 use Rattle.feed.specs.FactorRows.{ReadsEachRow}
 
--- the factor rows that are read from notes; one that is refused is passed over
+-- the factor rows that can be read from notes; refused ones are passed over
 pub data KeepsFitRows : List (List ℕ) → List FactorRow → Type 0 where
   none : KeepsFitRows [] []
   row : {note : List ℕ} {notes : List (List ℕ)} {r : FactorRow} {rows : List FactorRow} → ReadsFactorRow note (Ok r) → KeepsFitRows notes rows → KeepsFitRows (note ∷ notes) (r ∷ rows)
@@ -20,12 +20,13 @@ pub data KeepsFitRows : List (List ℕ) → List FactorRow → Type 0 where
 abbrev pub KeepsFitAnswers : List (Result FactorRow Refusal) → List FactorRow → Type 0
 KeepsFitAnswers answers rows = (notes : List (List ℕ)) → ReadsEachRow notes answers → KeepsFitRows notes rows
 
--- a feed begins with a building, which is its first note, and the factor rows after it; or it has neither
+-- a feed begins with its building and the factor rows straight after it, or, where its first note is no building, with
+-- neither
 pub data BeginsWith (feed : List ℕ) : Option Building → List FactorRow → Type 0 where
   building : {rows : List FactorRow} {notes : List (List ℕ)} {left : List ℕ} (b : Building) → OpensWith feed b notes left → KeepsFitRows notes rows → BeginsWith feed (Some b) rows
   no_building : ((b : Building) → ReadsBuilding feed (Ok b) → ⊥) → BeginsWith feed None []
 
--- the basis on which entries are booked: the building's life in years and the factors, if there is a building
+-- the basis of booking: the building's life in years and the factors, if there is a building
 pub data Basis : Type 0 where
   unbooked : Basis
   by : (y : ℕ) (factor_map : FactorMap) → Basis

@@ -1,4 +1,4 @@
--- Statements by their text.
+-- The texts of statements.
 use Rattle.std.specs.Prelude.{ℕ, List, ◌++◌}
 use Rattle.feed.specs.NoteTexts.{note_text}
 use Rattle.listing.specs.declared.statement.Statement.{Statement}

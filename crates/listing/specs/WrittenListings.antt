@@ -1,16 +1,16 @@
--- What is written for a feed: its listing, or that it is too long.
+-- What is written for a feed: its listing, or the refusal of one that is too long.
 use Rattle.std.specs.Prelude.{◌≡◌, ℕ, ◌<◌, ◌≤◌, List, ◌++◌, length, codes}
 use Rattle.refusals.specs.declared.refusal.Refusal.TheVariants.{FeedTooLong}
 use Rattle.refusals.specs.RefusalTexts.{refusal_text}
 use Rattle.listing.specs.Listings.{ListsFeed}
 use Rattle.feed.specs.Writing.{IsOnlyText}
 
--- text is what is written for a feed: its listing, or, of a feed that is too long, one line with the refusal
+-- text is written for a feed: its listing, or one line with the refusal where it is too long
 pub record ListsOrRefuses (feed text : List ℕ) : Type 0 where
   pub listed : length feed ≤ 65536 → ListsFeed feed text
   pub refused : 65536 < length feed → text ≡ refusal_text FeedTooLong ++ codes "\n"
 
--- text is what is written for a feed, and no other is
+-- text is written for a feed, and no other text is
 pub record IsListing (feed text : List ℕ) : Type 0 where
   pub lists : ListsOrRefuses feed text
   pub only : IsOnlyText (ListsOrRefuses feed) text

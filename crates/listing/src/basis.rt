@@ -1,4 +1,4 @@
-//! What the entries of a feed are booked by: the building and the factors that it opens with.
+//! The basis on which a feed's entries are booked: the building and the factors that it opens with.
 ghost use Rattle.std.specs.Prelude.{IfOk, List, ℕ};
 ghost use Rattle.feed.specs.FactorRows.{ReadsEachRow};
 ghost use Rattle.listing.specs.Bases.{BeginsWith, KeepsFitRows, KeepsFitAnswers};
@@ -8,14 +8,17 @@ use feed::{Opening, OpeningError};
 use refusals::Refusal;
 use std::alloc::{AllocError, Global};
 
-/// The building, if the feed has one first, and the factor rows after it; without a building there are none.
+/// What a feed opens with: its building, and the factor rows straight after it. A feed with no building has no rows.
 #[derive(Debug, Drop)]
 pub struct BookingBasis {
+    /// The building, if it is the first note of the feed and can be read.
     pub building: Option<Building>,
+    /// The rows in their order, without those that are refused.
     pub rows: Vec<FactorRow>,
 }
 
 impl BookingBasis {
+    /// Reads the basis of a feed. It refuses nothing, and errs only where memory fails.
     pub fn read(heap: Global, feed: &[u8]) -> Result<BookingBasis, AllocError>
         ensures { IfOk result (λ basis. BeginsWith feed.now basis.building basis.rows.items) }
     {
@@ -33,7 +36,7 @@ impl BookingBasis {
     }
 }
 
-// The rows that were read: one that is refused is passed over.
+// The rows that can be read; refused ones are passed over.
 fn fit_rows(
     heap: Global,
     answers: &[Result<FactorRow, Refusal>],

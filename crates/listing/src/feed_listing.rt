@@ -1,4 +1,4 @@
-//! The listing of a whole feed.
+//! The listing of a feed.
 ghost use Rattle.std.specs.Prelude.{◌≡◌, ℕ, List, IfOk, string_bytes};
 ghost use Rattle.listing.specs.Listings.{IsLastLine, ListsFeed, IsLastPartLine};
 ghost use Rattle.listing.specs.Bases.{basis_of};
@@ -9,7 +9,7 @@ use crate::listing_line::part_line;
 use feed::{Part, Reader};
 use std::alloc::{AllocError, Global};
 
-/// A line for each note of the feed, and a last one that says how the feed ends.
+/// The listing of a feed's bytes, however many: a line for each note, and a last line that says how the feed ends.
 pub fn listing(heap: Global, feed: &[u8]) -> Result<String, AllocError>
     ensures value { IfOk result (λ s. ListsFeed feed.now (string_bytes s)) }
     ensures only { IfOk result (λ s. IsOnlyText (ListsFeed feed.now) (string_bytes s)) }
@@ -26,7 +26,7 @@ pub fn listing(heap: Global, feed: &[u8]) -> Result<String, AllocError>
     Ok(text)
 }
 
-// The line for what is left of a feed where no note can be read any more. It takes the heap and the basis as `line` does:
+// The line for the bytes that are left after the last note. It takes the heap and the basis as `part_line` does, since
 // a struct for the two would be no plainer.
 fn last_line(heap: Global, basis: &BookingBasis, left: &Part) -> Result<String, AllocError>
     ensures { IfOk result (λ s. IsLastPartLine (basis_of basis.now) left.now (string_bytes s)) }

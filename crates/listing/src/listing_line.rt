@@ -1,4 +1,4 @@
-//! One line of a listing.
+//! The line of one part of a feed.
 ghost use Rattle.std.specs.Prelude.{◌≡◌, ℕ, List, IfOk, string_bytes};
 ghost use Rattle.listing.specs.ListingLines.{IsPartLine};
 ghost use Rattle.listing.specs.Bases.{basis_of};
@@ -9,7 +9,8 @@ use crate::statement::Statement;
 use feed::Part;
 use std::alloc::{AllocError, Global};
 
-/// The line for a part of a feed: what its first note says and is booked at, or by which number it is refused.
+/// The line of a part of a feed: its place and start, then the fields of its first note and what it is booked at, or
+/// the number of the refusal.
 pub fn part_line(heap: Global, basis: &BookingBasis, part: &Part) -> Result<String, AllocError>
     ensures value { IfOk result (λ s. IsPartLine (basis_of basis.now) part.now (string_bytes s)) }
     ensures only { IfOk result (λ s. IsOnlyText (IsPartLine (basis_of basis.now) part.now) (string_bytes s)) }

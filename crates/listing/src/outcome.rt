@@ -15,7 +15,7 @@ use std::fmt;
 pub(crate) enum Outcome {
     Booked(BookedLine),
     Refused(Refusal),
-    // there is no building to book for
+    // There is no building to book for.
     Unbooked,
 }
 

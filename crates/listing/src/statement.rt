@@ -1,4 +1,4 @@
-//! What a line states of the first note of bytes.
+//! What a line says of bytes, by their first note.
 ghost use Rattle.std.specs.Prelude.{Some};
 ghost use Rattle.listing.specs.ListingLines.{IsStatement};
 ghost use Rattle.listing.specs.Bases.{basis_of};
@@ -12,11 +12,11 @@ use std::fmt;
 
 #[derive(Clone, Copy, Debug, PartialEq, Eq)]
 pub(crate) enum Statement {
-    // what a note says, and what it is booked at if it is an entry
+    // A note, and what it is booked at if it is an entry.
     Note(Note, Option<Outcome>),
-    // why a note is refused
+    // The head of a note that is refused, and its refusal.
     Refused(Head, Refusal),
-    // why no note can be told from so many bytes
+    // The number of bytes that frame no note, and their refusal.
     Unframed(usize, Refusal),
 }
 

@@ -1,4 +1,4 @@
-//! The listing of what a reader has, written to a writer.
+//! Reading a feed and writing its listing.
 ghost use Rattle.std.specs.Prelude.{IfOk, IfSome, OnOk, string_bytes};
 ghost use Rattle.feed.specs.Writing.{WritesText, WritesFor};
 ghost use Rattle.listing.specs.WrittenListings.{ListsOrRefuses, IsListing};
@@ -9,7 +9,9 @@ use refusals::Refusal;
 use std::alloc::{AllocError, Global};
 use std::io::{self, Read, Write};
 
-/// Reads a feed, and writes its listing as a whole, or that it is too long: where the text cannot be made, nothing is written.
+/// Reads a feed, and writes its listing as a whole. A feed of more than 65,536 bytes is refused by `FeedTooLong` (25),
+/// in one line instead. Errs where reading, memory or writing fails; only where writing itself fails may a part have
+/// been written.
 pub fn write_listing<R: Read + Drop, W: Write>(
     heap: Global,
     reader: R,
@@ -22,7 +24,7 @@ pub fn write_listing<R: Read + Drop, W: Write>(
     writer.write_all(text.as_str().as_bytes())
 }
 
-// The listing of a feed, or the line that refuses one that is too long.
+// The listing of a feed, or the line that refuses a feed that is too long.
 fn listing_or_refusal(heap: Global, feed: &[u8]) -> Result<String, AllocError>
     ensures { IfOk result (λ text. ListsOrRefuses feed.now (string_bytes text)) }
 {

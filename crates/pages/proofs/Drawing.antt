@@ -1,4 +1,4 @@
--- A page drawn as far as a loop over its headings has come.
+-- A page that is drawn as far as a loop over its headings has come.
 use Rattle.std.proofs.Common.{◌≡◌, ℕ, ◌+◌, ◌-◌, ◌<◌, ◌≤◌, List, ◌++◌, length, get_or, set, drop, map, ℤ, pos, ◌+ℤ◌, ◌-ℤ◌, nat_eq, unsigned_abs, ◌^◌, Ok, Fits, FitsSigned, w16, w64, append_assoc, subst, refl, sym, ap, ◌∙◌, arith}
 use Rattle.std.specs.List.{range_with_len}
 use Rattle.std.proofs.lemmas.Int.{ints, to_z-of_z, fits_signed_from_abs}
@@ -16,35 +16,35 @@ use Rattle.pages.proofs.Parts.{additive_sums, Cutting, up_to, sum_more, sum_none
 use Rattle.pages.proofs.Telescope.{nothing_stays, adds_up}
 use Rattle.pages.proofs.Nearby.{is_rounded, near_between}
 
--- a number that fits is what its bits are read as
+-- a number that fits is read back as it is
 read_back : (z : ℤ) → unsigned_abs z < 2 ^ 63 → held z ≡ z
 read_back z h = to_z-of_z w64 z (fits_signed_from_abs w64 z h)
 
--- kilograms of such grams are far from wrapping
+-- the kilograms of grams within the bound are far from wrapping
 small_kilograms : (g : ℤ) → unsigned_abs g ≤ max_size → unsigned_abs (whole_kilograms g) ≤ 51200000000001
 small_kilograms g h = let r = is_rounded g in omega (arith, ints, r.least, r.most)
 
--- one more figure behind those that are written
+-- one more figure after those that are written
 figure_more : (f : ℕ → Figure) (k : ℕ) (before : List Figure) → k < length before → set (map f (range_with_len 1 k) ++ drop k before) k (f (k + 1)) ≡ map f (range_with_len 1 (k + 1)) ++ drop (k + 1) before
 figure_more f k before l =
     let written = map f (range_with_len 1 k) in
     let n = length-map-range_with_len f 1 k in
     rw (drop_more before k (f 0) l, set_at written (get_or before k (f 0)) (drop (k + 1) before) (f (k + 1)) k n, map-range_with_len_more f 1 k (k + 1) (omega arith), append_assoc) refl
 
--- totals, and a cut that has n headings
+-- totals, and a cut with n headings
 pub record Page (cut : Assignment) (t : Totals) (n : ℕ) : Type 0 where
   pub cutting : Cutting cut (sums_of t)
   pub sized : cut.size ≡ n
 
--- what shows that they are such
+-- such a page, from its parts
 pub page : {cut : Assignment} {n : ℕ} (t : Totals) → IsCut cut → cut.size ≡ n → length t.grams ≡ 22 → length t.counts ≡ 22 → Page cut t n
 page t lawful sized g c = record { cutting = record { lawful = lawful; adds = additive_sums t g c }; sized = sized }
 
--- any neighbouring headings of it are near the grams under them
+-- any neighbouring headings are near the sum of their grams
 pub near_page : {cut : Assignment} {t : Totals} {n : ℕ} → Page cut t n → NeighboursAreNear cut (sums_of t)
 near_page p i j l m = near_between p.cutting i j l m
 
--- totals by row, and the same under the headings
+-- totals by row, and the same totals under the headings
 pub record Headed (cut : Assignment) (t u : Totals) (n : ℕ) : Type 0 where
   pub page : Page cut t n
   pub grams_under : length u.grams ≡ 22
@@ -68,30 +68,30 @@ none_drawn headed room =
     record { headed = headed; room = room; run = sym r; kilograms = sym nothing_stays ∙ ap whole_kilograms (sym r); count = sym (sum_none natural p.adds.counts p.lawful); figures_are = refl }
 
 module _ {cut : Assignment} {t u : Totals} {n : ℕ} {before figures : List Figure} {z : ℤ} {total : Figure} {k : ℕ} (drawn : Drawn cut t u n before figures z total k) where
-  -- neither grams nor kilograms up to a heading wrap
+  -- running sums do not wrap
   in_bounds : (j : ℕ) → unsigned_abs (running_sum cut (sums_of t) j) ≤ max_size
   in_bounds j = grams_within t (up_to cut j)
 
   small : (j : ℕ) → unsigned_abs (whole_kilograms (running_sum cut (sums_of t) j)) ≤ 51200000000001
   small j = small_kilograms (running_sum cut (sums_of t) j) (in_bounds j)
 
-  -- the total so far as the machine reads it
+  -- the total so far, read back as it is
   before_is : held total.kilograms ≡ whole_kilograms (running_sum cut (sums_of t) k)
   before_is = let s = small k in rw drawn.kilograms (read_back _ (omega arith))
 
   module _ (within : k < n) where
-    -- there are no more headings than places
+    -- there are at most 22 headings
     in_place : k < 22
     in_place = omega (arith, drawn.headed.page.cutting.lawful.few, drawn.headed.page.sized)
 
-    -- the count under the next heading
+    -- the count of the next heading
     counts_at : get_or u.counts k 0 ≡ (heading_sums cut (sums_of t)).counts (λ h. nat_eq h (k + 1))
     counts_at =
         let l = in_place in
         sym (one_alone natural (k + 1) 1 u.counts k 0 (omega arith) (omega (arith, drawn.headed.counts_under)))
         ∙ ap (λ s. s.counts (λ h. nat_eq h (k + 1))) drawn.headed.same
 
-    -- the running sum with the next heading's grams
+    -- the running sum up to the next heading
     sum_is : z +ℤ held (get_or u.grams k (pos 0)) ≡ running_sum cut (sums_of t) (k + 1)
     sum_is =
         let l = in_place in
@@ -108,7 +108,7 @@ module _ {cut : Assignment} {t u : Totals} {n : ℕ} {before figures : List Figu
     run_is : held (z +ℤ held (get_or u.grams k (pos 0))) ≡ running_sum cut (sums_of t) (k + 1)
     run_is = to_z-of_z w64 _ sum_fits ∙ sum_is
 
-    -- and how many entries it is of
+    -- the count up to the next heading
     count_is : total.count + get_or u.counts k 0 ≡ (sums_of t).counts (up_to cut (k + 1))
     count_is = let p = drawn.headed.page.cutting in omega (arith, drawn.count, counts_at, sum_more natural p.adds.counts p.lawful k)
 
@@ -116,7 +116,7 @@ module _ {cut : Assignment} {t u : Totals} {n : ℕ} {before figures : List Figu
     count_fits = let few = counts_within t (up_to cut (k + 1)) in rw count_is (omega arith)
 
     module _ {kg : ℤ} (rounds : kg ≡ whole_kilograms (held (z +ℤ held (get_or u.grams k (pos 0))))) where
-      -- its kilograms, which the machine reads as they are
+      -- the kilograms up to the next heading, read back as they are
       kg_is : held kg ≡ whole_kilograms (running_sum cut (sums_of t) (k + 1))
       kg_is = let s = small (k + 1) in rw (rounds, run_is) (read_back _ (omega arith))
 
@@ -126,14 +126,14 @@ module _ {cut : Assignment} {t u : Totals} {n : ℕ} {before figures : List Figu
           let less = small k in
           rw (kg_is, before_is) (fits_signed_from_abs w64 _ (omega (arith, ints)))
 
-      -- what is written is the next heading's figure
+      -- what is written is the figure of the next heading
       figure_is : record { kilograms = held (held kg -ℤ held total.kilograms); count = get_or u.counts k 0 } ≡ heading_figure cut (sums_of t) (k + 1)
       figure_is =
           let e : k + 1 - 1 ≡ k = omega arith in
           let p = to_z-of_z w64 _ rest_fits ∙ rw (kg_is, before_is, e) refl in
           λ i. record { kilograms = p i; count = counts_at i }
 
-      -- so one heading more is written
+      -- so one more heading is written
       pub one_drawn : Drawn cut t u n before (set figures k (record { kilograms = held (held kg -ℤ held total.kilograms); count = get_or u.counts k 0 })) (held (z +ℤ held (get_or u.grams k (pos 0)))) (record { kilograms = held kg; count = total.count + get_or u.counts k 0 }) (k + 1)
       one_drawn = record {
         headed = drawn.headed;
@@ -148,7 +148,7 @@ module _ {cut : Assignment} {t u : Totals} {n : ℕ} {before figures : List Figu
     size_is : k ≡ cut.size
     size_is = all ∙ sym drawn.headed.page.sized
 
-    -- after the last heading the total is the page's
+    -- after the last heading, the total is that of the page
     total_is : total ≡ total_figure (sums_of t)
     total_is =
         let c = drawn.headed.page.cutting in

@@ -1,4 +1,4 @@
--- Totals added up by heading, as far as a loop over the rows has come.
+-- Totals that are added up by heading, as far as a loop over the rows has come.
 use Rattle.std.proofs.Common.{map, FitsSigned, w64, ◌≡◌, ℕ, ◌+◌, ◌-◌, ◌<◌, ◌≤◌, Bool, List, length, get_or, set, drop, replicate, sum_by, sum, ℤ, pos, ◌+ℤ◌, unsigned_abs, refl, sym, ap, ◌∙◌, arith}
 use Rattle.std.specs.List.{range_with_len}
 use Rattle.std.proofs.lemmas.List.{length-set, length-replicate, get_or-map}
@@ -27,21 +27,21 @@ pub record HeadingAt (cut : Assignment) (i h : ℕ) : Type 0 where
   pub within : IsBetween 1 h 22
   pub row : i < 22
 
--- it is one of the places that are added to
+-- the heading is one of the places that are added to
 pub heading_at : {cut : Assignment} {i h : ℕ} → IsCut cut → i < 22 → h ≡ cut.heading (row_number (get_or ALL i Production)) → HeadingAt cut i h
 heading_at {cut} {i} {h} lawful l e =
     let next : h ≡ cut.heading (i + 1) = e ∙ ap cut.heading (row_at i l) in
     let w = lawful.every (i + 1) (omega arith, omega arith) in
     record { is = next; within = (omega (arith, w), omega (arith, w, lawful.few)); row = l }
 
--- what stands under the headings, and the rows from place i on, are all that the rows come to
+-- what is under the headings, with the rows from place i on, sums to all rows
 pub record Moved {X : Type 0} (none : X) (plus : X → X → X) (cut : Assignment) (xs heading_sums : List X) (i : ℕ) : Type 0 where
   pub rows : length xs ≡ 22
   pub places : length heading_sums ≡ 22
   pub all : (choice : ℕ → Bool) → plus (sum_in none plus choice (numbered_rows 1 heading_sums)) (sum_in none plus (λ row. choice (cut.heading row)) (numbered_rows (i + 1) (drop i xs))) ≡ sum_in none plus (λ row. choice (cut.heading row)) (numbered_rows 1 xs)
 
 module _ {X : Type 0} {none : X} {plus : X → X → X} (laws : Adds none plus) {cut : Assignment} {xs : List X} where
-  -- at first nothing has moved, then one row more, and in the end all
+  -- at first no row has moved, then one more, and in the end all have
   moved_none : length xs ≡ 22 → Moved none plus cut xs (replicate 22 none) 0
   moved_none rows = record {
     rows = rows;
@@ -76,12 +76,12 @@ pub record SoFar (cut : Assignment) (t : Totals) (grams : List ℤ) (counts : Li
   pub in_bounds : sum_by unsigned_abs grams + sum_by unsigned_abs (drop i t.grams) ≤ sum_by unsigned_abs t.grams
   pub few : sum counts + sum (drop i t.counts) ≡ sum t.counts
 
--- the loop begins
+-- before the first row
 pub none_yet : {cut : Assignment} {t : Totals} → length t.grams ≡ 22 → length t.counts ≡ 22 → SoFar cut t (replicate 22 (pos 0)) (replicate 22 0) 0
 none_yet g n = record { grams_moved = moved_none whole g; counts_moved = moved_none natural n; in_bounds = omega arith; few = omega arith }
 
 module _ {cut : Assignment} {t : Totals} {grams : List ℤ} {counts : List ℕ} {i h : ℕ} (so_far : SoFar cut t grams counts i) (at : HeadingAt cut i h) where
-  -- what stands there and what is added are light together
+  -- the value of the heading and the one that is added are together within the bound
   sizes : unsigned_abs (get_or grams (h - 1) (pos 0)) + unsigned_abs (get_or t.grams i (pos 0)) ≤ max_size
   sizes =
       omega (arith, size_most grams (h - 1) (pos 0) (omega (arith, so_far.grams_moved.places, at.within)), sum_by-drop_more unsigned_abs t.grams i (pos 0) (omega (arith, so_far.grams_moved.rows, at.row)), so_far.in_bounds, t.grams_within)
@@ -89,7 +89,7 @@ module _ {cut : Assignment} {t : Totals} {grams : List ℤ} {counts : List ℕ} 
   pub sum_fits : FitsSigned w64 (held (get_or grams (h - 1) (pos 0)) +ℤ held (get_or t.grams i (pos 0)))
   sum_fits = in_bounds_fits (get_or grams (h - 1) (pos 0)) (get_or t.grams i (pos 0)) sizes
 
-  -- one row more
+  -- after one more row
   pub one_row : SoFar cut t (set grams (h - 1) (held (held (get_or grams (h - 1) (pos 0)) +ℤ held (get_or t.grams i (pos 0))))) (set counts (h - 1) (get_or counts (h - 1) 0 + get_or t.counts i 0)) (i + 1)
   one_row =
       let exact = in_bounds_kept (get_or grams (h - 1) (pos 0)) (get_or t.grams i (pos 0)) sizes in
@@ -100,6 +100,6 @@ module _ {cut : Assignment} {t : Totals} {grams : List ℤ} {counts : List ℕ} 
         few = omega (arith, counts_added counts (h - 1) 0 (get_or t.counts i 0) (omega (arith, so_far.counts_moved.places, at.within)), sum_by-drop_more (λ x. x) t.counts i 0 (omega (arith, so_far.counts_moved.rows, at.row)), so_far.few);
       })
 
--- the loop ends
+-- after the last row
 pub all_rows : {cut : Assignment} {t : Totals} {grams : List ℤ} {counts : List ℕ} {i : ℕ} → SoFar cut t grams counts i → 22 ≤ i → sums_in (numbered_rows 1 grams) (numbered_rows 1 counts) ≡ heading_sums cut (sums_of t)
 all_rows so_far l = λ j. record { grams = λ choice. moved_all whole so_far.grams_moved l choice j; counts = λ choice. moved_all natural so_far.counts_moved l choice j }

@@ -1,4 +1,4 @@
--- What the first headings of a cut come to.
+-- The sums of a cut's first headings.
 use Rattle.std.proofs.Common.{◌≡◌, ℕ, ◌+◌, ◌≤◌, Bool, true, List, [], ◌∷◌, length, ℤ, ◌+ℤ◌, nat_eq, nat_le, sym, ap, ◌∙◌, arith}
 use Rattle.std.specs.List.{All}
 use Rattle.std.proofs.lemmas.Bool.Decides.{nat_tests}
@@ -11,29 +11,29 @@ use Rattle.totals.proofs.Choosing.{Parts, split}
 use Rattle.pages.specs.Cuts.{Assignment, IsCut}
 use Rattle.pages.specs.Pages.{is_between}
 
--- where each row is chosen by one of two choices, the whole comes to what the two come to together
+-- where a choice is split in two, the sum is that of the two parts
 pub record Splits {X : Type 0} (plus : X → X → X) (sum : (ℕ → Bool) → X) : Type 0 where
   pub at : {a b c : ℕ → Bool} → ((row : ℕ) → IsRowNumber row → Parts (a row) (b row) (c row)) → sum c ≡ plus (sum a) (sum b)
 
--- both sums do so
+-- the sums of grams and of counts split so
 pub record Additive (sums : Sums) : Type 0 where
   pub grams : Splits ◌+ℤ◌ sums.grams
   pub counts : Splits ◌+◌ sums.counts
 
--- so do values that each have a row's number
+-- sums of values that each have the number of a row split so
 pub additive : (ws : List (ℕ × ℤ)) (ns : List (ℕ × ℕ)) → All (λ w. IsRowNumber w.0) ws → All (λ n. IsRowNumber n.0) ns → Additive (sums_in ws ns)
 additive ws ns rows rows' = record {
   grams = record { at = λ parts. split whole ws rows parts };
   counts = record { at = λ parts. split natural ns rows' parts };
 }
 
--- the numbers of an array's places are those of rows
+-- the places of an array have the numbers of rows
 rows_of : {X : Type 0} (k : ℕ) (xs : List X) → 1 ≤ k → k + length xs ≤ 23 → All (λ v. IsRowNumber v.0) (numbered_rows k xs)
 unfolding numbered_rows
 rows_of {X} k [] l m = All-nil {X = ℕ × X} (λ v. IsRowNumber v.0)
 rows_of {X} k (x ∷ xs) l m = All-cons {X = ℕ × X} (λ v. IsRowNumber v.0) (k, x) (numbered_rows (k + 1) xs) (omega arith, omega arith) (rows_of (k + 1) xs (omega arith) (omega arith))
 
--- so the sums of totals do
+-- so the sums of totals split
 pub additive_sums : (t : Totals) → length t.grams ≡ 22 → length t.counts ≡ 22 → Additive (sums_of t)
 additive_sums t g c = additive (numbered_rows 1 t.grams) (numbered_rows 1 t.counts) (rows_of 1 t.grams (omega arith) (omega arith)) (rows_of 1 t.counts (omega arith) (omega arith))
 
@@ -47,15 +47,15 @@ abbrev pub up_to : Assignment → ℕ → ℕ → Bool
 up_to cut k row = nat_le (cut.heading row) k
 
 module _ {X : Type 0} {none : X} {plus : X → X → X} (laws : Adds none plus) {sum : (ℕ → Bool) → X} (splits : Splits plus sum) {cut : Assignment} (lawful : IsCut cut) where
-  -- the headings up to j are those up to i and those after it
+  -- the sum of the headings up to j is that up to i and that of those after it
   pub sum_between : (i j : ℕ) → i ≤ j → sum (up_to cut j) ≡ plus (sum (up_to cut i)) (sum (λ row. is_between i j (cut.heading row)))
   sum_between i j l = splits.at (λ row r. record { one = grind (arith, nat_tests) })
 
-  -- up to the next heading there is that one more
+  -- the sum up to the next heading has that one more
   pub sum_more : (k : ℕ) → sum (up_to cut (k + 1)) ≡ plus (sum (up_to cut k)) (sum (λ row. nat_eq (cut.heading row) (k + 1)))
   sum_more k = splits.at (λ row r. record { one = grind (arith, nat_tests) })
 
-  -- up to none there is nothing, and up to the last there is all
+  -- the sum up to heading 0 is nothing, and that up to the last heading is of all rows
   pub sum_none : sum (up_to cut 0) ≡ none
   sum_none = laws.only _ (splits.at (λ row r. let w = lawful.every row r in record { one = grind (arith, nat_tests) }))
 

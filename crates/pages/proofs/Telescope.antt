@@ -1,4 +1,4 @@
--- The figures of a page add up to its total, however they are rounded as long as nothing stays nothing.
+-- The figures of a page add up to its total, by any rounding that leaves nothing as nothing.
 use Rattle.std.proofs.Common.{◌≡◌, ℕ, zero, suc, ◌+◌, ◌-◌, ◌≤◌, drop, map, sum_by, subst, pos, ◌-ℤ◌, nat_eq, refl, sym, ap, ◌∙◌, arith}
 use Rattle.std.specs.List.{range_with_len}
 use Rattle.std.proofs.lemmas.Int.{ints}
@@ -28,7 +28,7 @@ pub nothing_stays : whole_kilograms (pos 0) ≡ pos 0
 nothing_stays = stays (pos 0) 1000 (omega arith)
 
 module _ (cut : Assignment) (sums : Sums) where
-  -- whatever stands between two places cancels
+  -- everything between the two ends cancels
   telescope : (i n : ℕ) → printed_kilograms (map (heading_figure cut sums) (range_with_len (i + 1) n)) ≡ whole_kilograms (running_sum cut sums (i + n)) -ℤ whole_kilograms (running_sum cut sums i)
   telescope i zero =
       let e : i + 0 ≡ i = omega arith in
@@ -38,7 +38,7 @@ module _ (cut : Assignment) (sums : Sums) where
       let f : i + 1 - 1 ≡ i = omega arith in
       rw (e, f) (omega (arith, ints, telescope (i + 1) n))
 
-  -- what is printed under the headings after i and up to j
+  -- the kilograms that the headings after i and up to j print
   pub printed_between : (i j : ℕ) → i ≤ j → j ≤ cut.size → printed_kilograms (figures_between i j (page_figures cut sums)) ≡ whole_kilograms (running_sum cut sums j) -ℤ whole_kilograms (running_sum cut sums i)
   unfolding page_figures
   printed_between i j l m =
@@ -48,7 +48,7 @@ module _ (cut : Assignment) (sums : Sums) where
       rw (drop-map f i (range_with_len 1 cut.size), range_after 1 cut.size i, take-map-range_with_len f (1 + i) (cut.size - i) (j - i) (omega arith), e) (rw reach at (telescope i (j - i)))
 
 module _ {cut : Assignment} {sums : Sums} (c : Cutting cut sums) where
-  -- the counts up to a heading add to what is counted up to there
+  -- the counts of the first headings sum to what is counted under them
   counted : (n : ℕ) → sum_by (λ f. f.count) (map (heading_figure cut sums) (range_with_len 1 n)) ≡ sums.counts (up_to cut n)
   counted zero = sym (sum_none natural c.adds.counts c.lawful)
   counted (suc n) =
@@ -56,7 +56,7 @@ module _ {cut : Assignment} {sums : Sums} (c : Cutting cut sums) where
       subst (λ m. sum_by (λ f. f.count) (map (heading_figure cut sums) (range_with_len 1 m)) ≡ sums.counts (up_to cut m)) e
       (sum_by-map-range_with_len_more (λ f. f.count) (heading_figure cut sums) 1 n (n + 1) (omega arith) ∙ ap (λ z. z + (heading_sums cut sums).counts (λ h. nat_eq h (n + 1))) (counted n) ∙ sym (sum_more natural c.adds.counts c.lawful n))
 
-  -- so do the figures, to the total
+  -- so the figures add up to the total
   pub adds_up : AddUp (page_figures cut sums) (total_figure sums)
   unfolding page_figures
   adds_up =

@@ -1,4 +1,4 @@
--- That the three cuts are cuts. It stands among the definitions, as each cut names its law, and cuts see no proofs.
+-- The three cuts are cuts. These laws stand in the specs because each cut names its law, and cuts see no proofs.
 use Rattle.std.specs.Prelude.{ℕ}
 use Rattle.std.proofs.Common.{arith}
 use Rattle.domain.specs.Ranges.{IsBetween}

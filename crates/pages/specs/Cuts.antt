@@ -1,10 +1,10 @@
--- Cuts: which heading each row has.
+-- Cuts: how many headings there are, and which of them each row has.
 use Rattle.std.specs.Prelude.{ℕ}
 use Rattle.domain.specs.Ranges.{IsBetween}
 use Rattle.booking.specs.Rows.{IsRowNumber, stage}
 use Rattle.pages.specs.Types.{emission_type}
 
--- how many headings there are, and which of them each row has, both counted from 1
+-- the number of headings, and the heading of each row, counted from 1
 pub record Assignment : Type 0 where
   pub size : ℕ
   pub heading : ℕ → ℕ
@@ -22,6 +22,6 @@ by_row = record { size = 22; heading = λ row. row }
 abbrev pub by_stage : Assignment
 by_stage = record { size = 4; heading = stage }
 
--- direct, indirect, embodied, and the sink
+-- direct, indirect, embodied and the sink
 abbrev pub by_type : Assignment
 by_type = record { size = 4; heading = emission_type }

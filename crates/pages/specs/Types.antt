@@ -1,4 +1,4 @@
--- The types of emission.
+-- The types of emission, and the type of each row.
 use Rattle.std.specs.Prelude.{ℕ, if◌then◌else◌, ◌||◌, ◌==◌}
 use Rattle.pages.specs.declared.by_type.EmissionType.{EmissionType}
 use Rattle.pages.specs.declared.by_type.EmissionType.TheVariants.{Direct, Indirect, Embodied, Sink}
@@ -9,7 +9,8 @@ emission_number Indirect = 2
 emission_number Embodied = 3
 emission_number Sink = 4
 
--- what is burnt in the building and the refrigerant are direct; what is bought, water and renewables in use are indirect; the sink is a type of its own; all else is embodied
+-- direct: what is burnt in the building, and refrigerant; indirect: energy bought, water, and renewables in use; the
+-- sink is a type of its own; all other rows are embodied
 abbrev pub emission_type : ℕ → ℕ
 emission_type row =
     if row == 11 || (row == 14 || row == 21) then 1

@@ -1,4 +1,4 @@
-//! The cut by row: each row is a heading of its own.
+//! The cut by row.
 ghost use Rattle.std.specs.Prelude.{refl};
 ghost use Rattle.pages.specs.Cuts.{by_row};
 ghost use Rattle.pages.specs.CutLaws.{by_row_lawful};
@@ -6,6 +6,7 @@ ghost use Rattle.pages.specs.CutLaws.{by_row_lawful};
 use crate::cut::Cut;
 use booking::Row;
 
+/// The cut by row: each of the 22 rows is a heading, under its own number.
 #[derive(Clone, Copy, Debug, PartialEq, Eq)]
 pub struct ByRow;
 

@@ -6,6 +6,7 @@ ghost use Rattle.pages.specs.CutLaws.{by_stage_lawful};
 use crate::cut::Cut;
 use booking::Row;
 
+/// The cut by stage. Headings 1 to 4 are the stages A to D, with the rows 1 and 2, 3 to 10, 11 to 21, and 22.
 #[derive(Clone, Copy, Debug, PartialEq, Eq)]
 pub struct ByStage;
 

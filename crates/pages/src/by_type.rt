@@ -8,15 +8,20 @@ ghost use Rattle.pages.specs.CutLaws.{by_type_lawful};
 use crate::cut::Cut;
 use booking::Row;
 
-/// What is burnt or leaks in use, what is used that others make, what is built in, and what is taken up.
+/// A type of emission, as the accounting draft divides them. Its number is that of its heading.
 #[derive(Clone, Copy, Debug, PartialEq, Eq)]
 pub enum EmissionType {
+    /// Direct emissions: what is burnt in the building, and refrigerant that leaks (rows 11, 14 and 21).
     Direct = 1,
+    /// Indirect emissions: energy bought and water, less the renewables in use (rows 12, 13, 15 and 19).
     Indirect = 2,
+    /// Embodied emissions: what is built in, maintained and taken down (rows 1 to 10, 16 to 18 and 22).
     Embodied = 3,
+    /// The sink: what planting takes up (row 20).
     Sink = 4,
 }
 
+/// The cut by type. Headings 1 to 4 are direct, indirect, embodied and the sink.
 #[derive(Clone, Copy, Debug, PartialEq, Eq)]
 pub struct ByType;
 

@@ -1,24 +1,25 @@
-//! What a cut is.
+//! Cuts: how rows are put under the headings of a page.
 ghost use Rattle.std.specs.Prelude.{◌≡◌, ℕ};
 ghost use Rattle.booking.specs.Rows.{row_number};
 ghost use Rattle.pages.specs.Cuts.{Assignment, IsCut};
 
 use booking::Row;
 
-/// A cut assigns the rows to headings: it says how many headings there are, from 1 to 22, and gives every row one of them.
+/// A cut of a page: a number of headings, and one of them for every row.
 pub trait Cut {
+    /// The number of headings, 1 to 22.
     const HEADINGS: usize;
 
     ghost HEADINGS: { ℕ };
 
-    // which heading each row has
+    // The heading of each row.
     ghost assignment: { Self → Assignment };
 
-    /// The heading of a row, from 1.
+    /// The heading of a row, from 1 to `HEADINGS`.
     fn heading(&self, row: Row) -> usize
         ensures { result ≡ (assignment self.now).heading (row_number row) };
 
-    // the constant is how many headings there are
+    // `HEADINGS` is the number of headings of the assignment.
     ghost sized: { (s : Self) → (assignment s).size ≡ HEADINGS };
 
     ghost lawful: { (s : Self) → IsCut (assignment s) };

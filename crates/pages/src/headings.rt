@@ -1,4 +1,4 @@
-//! The totals under each heading of a cut.
+//! Totals added up by heading.
 ghost use Rattle.std.specs.Prelude.{◌≡◌};
 ghost use Rattle.totals.specs.Sums.{sums_of};
 ghost use Rattle.pages.specs.Pages.{heading_sums};
@@ -7,7 +7,7 @@ use crate::cut::Cut;
 use booking::Row;
 use totals::{ROWS, Totals};
 
-// The totals of the rows, added up by heading in one pass: what stands first is the first heading's.
+// The totals of the headings, the first heading's first, from one pass over the rows.
 pub(crate) fn totals_by_heading<C: Cut>(totals: Totals, cut: &C) -> Totals
     ensures { sums_of result ≡ heading_sums (C.assignment cut.now) (sums_of totals) }
 {

@@ -1,4 +1,4 @@
-//! The page of a sheet: its rows under the headings of a cut, in whole kilograms that add up.
+//! Pages: the totals of a sheet under the headings of a cut, in whole kilograms that add up to the page's total.
 #![tactic(auto)]
 
 mod by_row;

@@ -1,4 +1,4 @@
-//! The page writer, one for every cut.
+//! Writing a page by any cut.
 ghost use Rattle.std.specs.Prelude.{◌≡◌, ℕ, ◌≤◌, IfOk};
 ghost use Rattle.exact.specs.Rounding.{nearest_whole, over};
 ghost use Rattle.totals.specs.Sums.{sums_of};
@@ -11,12 +11,18 @@ use exact::Ratio;
 use refusals::Refusal;
 use totals::Totals;
 
-// A kilogram in grams.
+// A kilogram, in grams.
 const KILOGRAM: u32 = 1_000;
 
-/// Writes the figure of each heading into the first places, as many as the cut has headings, and answers the total.
-/// The running sum of grams is rounded, and a heading is what its rounded running sum is more than the one before: so the headings add up to the total, whatever each of them would be rounded to alone.
-pub fn write_page<C: Cut>(totals: Totals, cut: &C, figures: &mut [Figure]) -> Result<Figure, Refusal>
+/// Writes the figure of each heading into the first places lent, and returns the figure of the total. Running sums of
+/// grams are rounded to whole kilograms, a half going up, and a heading prints by how much they grow; so the headings
+/// add up to the total. Refused by `TooFewPlaces` (11) where there are fewer places than headings, and then no place is
+/// changed.
+pub fn write_page<C: Cut>(
+    totals: Totals,
+    cut: &C,
+    figures: &mut [Figure],
+) -> Result<Figure, Refusal>
     ensures value { Writes (C.assignment cut.now) (sums_of totals) figures.old result figures.new }
     ensures adds { IfOk result (λ total. AddUp (page_figures (C.assignment cut.now) (sums_of totals)) total) }
     ensures near { NeighboursAreNear (C.assignment cut.now) (sums_of totals) }

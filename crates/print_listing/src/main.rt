@@ -1,4 +1,4 @@
-//! Lists the feed on standard input: a line for each note, and how the feed ends.
+//! Prints the listing of the feed on standard input.
 #![tactic(auto)]
 
 use listing::write_listing;

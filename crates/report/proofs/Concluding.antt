@@ -1,4 +1,4 @@
--- The account of a project, from what was written of its calls.
+-- The report of a project, from the texts of its calls.
 use Rattle.std.proofs.Common.{◌≡◌, ℕ, List, [], ◌∷◌, ◌++◌, take, reverse, Ok, refl, ◌∙◌, subst, append_assoc}
 use Rattle.factors.specs.Layers.{project_map}
 use Rattle.domain.specs.declared.factor.FactorRow.{FactorRow}
@@ -14,7 +14,7 @@ use Rattle.report.specs.Calls.{history_text, WritesPage}
 use Rattle.report.specs.ReportLines.{page_lines, grade_line}
 use Rattle.report.specs.Projects.{ProjectParts}
 
--- all is sent, then comes a page, and then the grade, each written after the other
+-- all is sent, then come a page and the grade, each written after the other
 pub written : (c : ProjectParts) (rows : List FactorRow) {s : State} {refused lines page_text joined last text : List ℕ} {n : ℕ} → rows ≡ c.rows → SendsAll c.building (project_map rows) c.notes s refused → WritesPage s lines → GivesGrade s n → joined ≡ refused ++ page_text → page_text ≡ lines → text ≡ joined ++ last → last ≡ grade_line n → IsProjectReport c text
 written c rows {s} {refused} {n = n} same sent page_of grade_of page_put page_is grade_put grade_is =
     let all = subst (λ (xs : List FactorRow). SendsAll c.building (project_map xs) c.notes s refused) same sent in
@@ -29,7 +29,7 @@ written c rows {s} {refused} {n = n} same sent page_of grade_of page_put page_is
       written = grade_put ∙ (λ i. (page_put ∙ (λ j. all.written j ++ (page_is ∙ page_of.written) j)) i ++ grade_is i);
     }
 
--- the law over histories holds of the page and the grade of an account
+-- a project's report ends with a lawful page and a lawful grade
 pub concludes : (c : ProjectParts) (text : List ℕ) → IsProjectReport c text → EndsLawfully c text
 concludes c text a =
     let factor_map = project_map c.rows in

@@ -4,7 +4,7 @@ use Rattle.std.proofs.lemmas.List.{take_more, length-take-le}
 use Rattle.pages.specs.declared.figure.Figure.{Figure}
 use Rattle.report.specs.ReportLines.{figure_line, heading_lines}
 
--- one heading more
+-- the lines with one more heading
 heading_more : (k : ℕ) (fs : List Figure) (f : Figure) → heading_lines k (fs ++ (f ∷ [])) ≡ heading_lines k fs ++ figure_line (decimal (k + length fs)) f
 heading_more k [] f = let at : k ≡ k + 0 = omega arith in append-nil (figure_line (decimal k) f) ∙ ap (λ n. figure_line (decimal n) f) at
 heading_more k (x ∷ fs) f =
@@ -12,7 +12,7 @@ heading_more k (x ∷ fs) f =
     ap (λ t. figure_line (decimal k) x ++ t) (heading_more (k + 1) fs f ∙ ap (λ n. heading_lines (k + 1) fs ++ figure_line (decimal n) f) at)
     ∙ sym (append_assoc (figure_line (decimal k) x) (heading_lines (k + 1) fs) (figure_line (decimal (k + length (x ∷ fs))) f))
 
--- the lines of so many headings, with one more
+-- the lines of the first k headings, with the next one
 pub heading_next : (fs : List Figure) (k : ℕ) (d : Figure) (text line : List ℕ) → k < length fs → text ≡ heading_lines 1 (take k fs) → line ≡ figure_line (decimal (k + 1)) (get_or fs k d) → text ++ line ≡ heading_lines 1 (take (k + 1) fs)
 heading_next fs k d text line less old is =
     let at : 1 + length (take k fs) ≡ k + 1 = omega (arith, length-take-le k fs (omega (arith, less))) in

@@ -33,7 +33,7 @@ use Rattle.report.specs.Reports.{IsReportText, denied, account, IsLawfulReport, 
 use Rattle.report.proofs.Concluding.{concludes}
 use Rattle.report.specs.Projects.{size_conditions, row_conditions, ReadsRow, ProjectParts, project_parts, TakesRows, all, row, refused, Opens, too_long, no_building, row_refused, project}
 
--- bytes that begin with a note are not of those that begin with none, and are not empty
+-- bytes that begin with a note are framed
 begins : (n rest bs : List ℕ) → IsOneNote n → bs ≡ n ++ rest → IsFramed bs
 begins n rest bs one cut = subst IsFramed (sym cut) (framed_front n rest one)
 
@@ -65,7 +65,7 @@ takes_only rows notes a b (row {note = n} x reads more) (refused {f = f} reads')
 takes_only rows notes a b (refused {note = n} {f = f} reads) (row x reads' more) = absurd (row_once (length rows) n (Err f) (Ok x) reads reads')
 takes_only rows notes a b (refused {note = n} {f = f} reads) (refused {f = g} reads') = row_once (length rows) n (Err f) (Err g) reads reads'
 
--- what a feed opens with is one: its building by its numbers, its notes, and what is left
+-- a feed has one opening: its building by its numbers, its notes, and the bytes that are left
 opens_with_only : {feed : List ℕ} {b c : Building} {notes notes' : List (List ℕ)} {left left' : List ℕ} → OpensWith feed b notes left → OpensWith feed c notes' left' → (numbers_of b ≡ numbers_of c) × (notes ≡ notes') × (left ≡ left')
 opens_with_only {feed} {b} {c} {notes} {notes'} {left} {left'} p q =
     let same = rows_only (rest_after_first feed) notes notes' left left' p.rows q.rows in
@@ -102,7 +102,7 @@ opens_only feed a b (project {notes = ns} {rows = rs} short opens takes) (projec
 denied_same : (k : ℕ) (f g : Refusal) → refusal_number f ≡ refusal_number g → denied_line k f ≡ denied_line k g
 denied_same k f g number i = codes "denied " ++ (decimal k ++ (codes " " ++ (decimal (number i) ++ codes "\n")))
 
--- one send of a sheet has one outcome, and one line
+-- a send has one outcome and one line
 same_sends : {s t t' : State} {bs : List ℕ} (r r' : Result (Unit {0}) Refusal) (k : ℕ) → Sends s bs r t → Sends s bs r' t' → (t ≡ t') × (send_text k r ≡ send_text k r')
 same_sends (Ok u) (Ok v) k a b = (a.let_in ∙ sym b.let_in, refl)
 same_sends {s} {bs = bs} (Ok u) (Err g) k a b = let e = number_unique (send_conditions s bs) a.number b.number in absurd (omega (arith, above_zero g))
@@ -110,7 +110,7 @@ same_sends {s} {bs = bs} (Err f) (Ok v) k a b = let e = number_unique (send_cond
 same_sends {s} {bs = bs} (Err f) (Err g) k a b = (a.refused ∙ sym b.refused, denied_same k f g (number_unique (send_conditions s bs) a.number b.number))
 
 module _ (b : BuildingNumbers) (factor_map : FactorMap) where
-  -- the same bytes, sent in the same order, lead to one sheet and to the same lines
+  -- the same bytes, sent in the same order, give the same state and the same lines
   sent_once : (a a' : List (List ℕ × Result (Unit {0}) Refusal)) (s s' : State) → map (λ x. x.0) a ≡ map (λ x. x.0) a' → History b factor_map (send_events a) s → History b factor_map (send_events a') s' → (s ≡ s') × (history_text (send_events a) ≡ history_text (send_events a'))
   sent_once [] [] s s' same new new = (refl, refl)
   sent_once [] (y ∷ a') s s' same history run' = let e = ap length same in absurd (omega (arith, e))
@@ -124,7 +124,7 @@ module _ (b : BuildingNumbers) (factor_map : FactorMap) where
       let place : length (sent_bytes (send_events a)) + 1 ≡ length (sent_bytes (send_events a')) + 1 = ap (λ l. length l + 1) (bytes_are a (map (λ z. z.0) a') tail ∙ sym (bytes_are a' (map (λ z. z.0) a') refl)) in
       (once.0, λ i. before.1 i ++ (once.1 ∙ ap (λ k. send_text k y.1) place) i)
 
-  -- and then to one page by stage and one grade
+  -- they then give the same page by stage and the same grade
   ends_once : (a a' : List (List ℕ × Result (Unit {0}) Refusal)) (s s' : State) (places places' after after' : List Figure) (total total' : Figure) (n n' : ℕ) → map (λ x. x.0) a ≡ map (λ x. x.0) a' → History b factor_map (grade_event n ∷ (page_event by_stage places (Ok total) after ∷ send_events a)) s → History b factor_map (grade_event n' ∷ (page_event by_stage places' (Ok total') after' ∷ send_events a')) s' → history_text (grade_event n ∷ (page_event by_stage places (Ok total) after ∷ send_events a)) ≡ history_text (grade_event n' ∷ (page_event by_stage places' (Ok total') after' ∷ send_events a'))
   ends_once a a' s s' places places' after after' total total' n n' same (grade (page history pages) grades) (grade (page run' pages') grades') =
       let sent = sent_once a a' s s' same history run' in
@@ -149,7 +149,7 @@ report_only {feed} (account {c = c} opens a) (denied {f = f} opens' is) = absurd
 report_only {feed} {text} {other} (account {c = c} opens a) (account {c = d} opens' a') =
     account_only c text other a (subst (λ x. IsProjectReport x other) (sym (opens_only feed (Ok c) (Ok d) opens opens')) a')
 
--- the law over histories holds of a report
+-- a report is lawful
 pub report_lawful : {feed text : List ℕ} → IsReportText feed text → IsLawfulReport feed text
 report_lawful {feed} (denied {f = f} opens is) c opens' = absurd (opens_only feed (Err f) (Ok c) opens opens')
 report_lawful {feed} {text} (account {c = d} opens a) c opens' =
@@ -158,7 +158,7 @@ report_lawful {feed} {text} (account {c = d} opens a) c opens' =
 pub is_report : {feed text : List ℕ} → IsReportText feed text → IsReport feed text
 is_report reports = record { reports = reports; only = λ other more. report_only more reports; law = report_lawful reports }
 
--- what a call promises of the report that it makes
+-- what a call promises of the report that it returns
 module _ (feed : List ℕ) (r : Result (String Global) AllocError) (value : IfOk r (λ s. IsReportText feed (string_bytes s))) where
   pub only_report : IfOk r (λ s. (other : List ℕ) → IsReportText feed other → other ≡ string_bytes s)
   only_report = IfOk-weaker r (λ s. IsReportText feed (string_bytes s)) (λ s. (other : List ℕ) → IsReportText feed other → other ≡ string_bytes s) (λ s reports other more. report_only more reports) value

@@ -6,7 +6,7 @@ use Rattle.feed.specs.Readings.{ReadsFactorRow}
 use Rattle.feed.specs.FactorRows.{ReadsEachRow, none, one}
 use Rattle.report.specs.Projects.{ReadsRow, TakesRows, all, row, refused}
 
--- these rows were gathered of notes, and then come those whose answers are still to be taken
+-- the rows that are gathered so far, and the answers that are still to come
 pub record Gathered (notes : List (List ℕ)) (rest : List (Result FactorRow Refusal)) (rows : List FactorRow) : Type 0 where
   pub more : List (List ℕ)
   pub read : ReadsEachRow more rest
@@ -31,7 +31,7 @@ module _ {notes : List (List ℕ)} {a : Result FactorRow Refusal} {rest : List (
         before = λ end takes. old.before end (subst (λ ns. TakesRows rows ns end) (sym first.2) (row r reads (subst (λ rs. TakesRows rs first.1 end) is takes)));
       }
 
-  -- or refused
+  -- its row is refused
   pub one_refused : (f : Refusal) → ((note : List ℕ) → ReadsFactorRow note a → ReadsRow (length rows) note (Err f)) → TakesRows [] notes (Err f)
   one_refused f own =
       let first = first_of old.read in

@@ -1,4 +1,4 @@
--- What a turn of `send_all` keeps.
+-- What each turn of `send_all` keeps.
 use Rattle.std.proofs.Common.{◌≡◌, ℕ, ◌+◌, ◌<◌, List, [], ◌∷◌, ◌++◌, length, map, reverse, Result, sym, refl, ap, ◌∙◌, subst, append-nil, arith}
 use Rattle.std.proofs.lemmas.List.{reverse-append}
 use Rattle.refusals.specs.declared.refusal.Refusal.{Refusal}
@@ -16,7 +16,7 @@ use Rattle.sheet.specs.States.{State, new_state}
 use Rattle.report.specs.ProjectReports.{SplitsIntoSends, ended, unframed, note, SendsAll}
 use Rattle.report.specs.Calls.{history_text, send_text, WritesSend}
 
--- how many sends there are among such calls
+-- the number of sends among such calls
 length_sends : (answered : List (List ℕ × Result (Unit {0}) Refusal)) → length (sent_bytes (send_events answered)) ≡ length answered
 length_sends [] = refl
 length_sends (a ∷ answered) = let e = length_sends answered in omega (arith, e)
@@ -24,7 +24,7 @@ length_sends (a ∷ answered) = let e = length_sends answered in omega (arith, e
 abbrev pub Sendings : ℕ → ℕ → List ℕ → List (List ℕ) → Type 0
 Sendings k at bs more = SplitsIntoSends bs more
 
--- what was sent of the bytes so far, and what was written of it; the rest the reader has still to come to
+-- what is sent of the bytes so far, and its text; the reader still has the rest
 pub record SentSoFar (b : BuildingNumbers) (factor_map : FactorMap) (bytes : List ℕ) (r : Reader) (s : State) (written : List ℕ) : Type 0 where
   pub done : List (List ℕ)
   pub answered : List (List ℕ × Result (Unit {0}) Refusal)
@@ -39,7 +39,7 @@ none_sent start fresh empty =
     record { done = []; answered = []; answers = refl; history = rw fresh new; same = empty; places = start.notes; so_far = begun Sendings start refl }
 
 module _ {b : BuildingNumbers} {factor_map : FactorMap} {bytes : List ℕ} {r : Reader} {s : State} {written : List ℕ} (old : SentSoFar b factor_map bytes r s written) where
-  -- one part sent, at its place
+  -- one part is sent, at its place
   module _ (p : Part) (place : p.place ≡ r.handed_out + 1) {t : State} {line pushed longer : List ℕ} (step : WritesSend s p.place (part_bytes p) t line) (is : longer ≡ written ++ pushed) (told : pushed ≡ line) where
     abbrev answered_more : List (List ℕ × Result (Unit {0}) Refusal)
     answered_more = (part_bytes p, step.answer) ∷ old.answered
@@ -66,7 +66,7 @@ module _ {b : BuildingNumbers} {factor_map : FactorMap} {bytes : List ℕ} {r : 
           so_far = one_more Sendings old.so_far (part_bytes p ∷ []) hands refl (λ more h. note (part_bytes p) (rest_of u) (hands_note r p u hands) refl h);
         }
 
-    -- what is left, that begins with no note, is sent last
+    -- the bytes that are left, which begin with no note, are sent last
     pub left_sent : (IsFramed (rest_of r) → ⊥) → IsRest r p → 0 < length (part_bytes p) → SendsAll b factor_map bytes t longer
     left_sent other is_left some =
         let none : IsFramed (part_bytes p) → ⊥ = subst (λ bs. IsFramed bs → ⊥) (sym is_left.bytes) other in
@@ -79,7 +79,7 @@ module _ {b : BuildingNumbers} {factor_map : FactorMap} {bytes : List ℕ} {r : 
           written = said_more;
         }
 
-  -- where no note comes next, and no byte is left
+  -- where no byte is left, all is sent
   pub all_sent : rest_of r ≡ [] → SendsAll b factor_map bytes s written
   all_sent none =
       record {
@@ -91,7 +91,7 @@ module _ {b : BuildingNumbers} {factor_map : FactorMap} {bytes : List ℕ} {r : 
         written = old.same;
       }
 
-  -- a reader that hands out no note is as it was
+  -- a reader that hands out no note is unchanged
   pub no_more : {u : Reader} → Stays r u → SentSoFar b factor_map bytes u s written
   no_more stay =
       record {

@@ -1,4 +1,4 @@
--- What is written of the calls of a sheet.
+-- The text of a sheet's calls.
 use Rattle.std.specs.Prelude.{◌≡◌, ℕ, ◌+◌, List, [], ◌∷◌, ◌++◌, length, take, Ok, Err, Result}
 use Rattle.refusals.specs.declared.refusal.Refusal.{Refusal}
 use Rattle.pages.specs.declared.figure.Figure.{Figure}
@@ -7,30 +7,31 @@ use Rattle.sheet.specs.Histories.{Event, send_event, page_event, grade_event, Dr
 use Rattle.sheet.specs.States.{State, Sends}
 use Rattle.report.specs.ReportLines.{denied_line, page_lines, grade_line}
 
--- of a send: nothing where it is let in
+-- the text of a send: none where it is let in
 abbrev pub send_text : ℕ → Result (Unit {0}) Refusal → List ℕ
 send_text place (Ok u) = []
 send_text place (Err f) = denied_line place f
 
--- of a page: its figures, or nothing where it is refused, as none is in an account
+-- the text of a page: its figures; none where it is refused, which the page of a report never is
 abbrev pub page_text : Assignment → Result Figure Refusal → List Figure → List ℕ
 page_text cut (Ok total) after = page_lines (take cut.size after) total
 page_text cut (Err f) after = []
 
--- of calls, the latest of them first, what is written in their order. A send's place is one more than the sends before it, refused ones included
+-- the text of calls, the latest first, written in their order. The place of a send is one more than the number of sends
+-- before it, refused ones included
 abbrev pub history_text : List Event → List ℕ
 history_text [] = []
 history_text (send_event bs r ∷ before) = history_text before ++ send_text (length (sent_bytes before) + 1) r
 history_text (page_event cut places r after ∷ before) = history_text before ++ page_text cut r after
 history_text (grade_event n ∷ before) = history_text before ++ grade_line n
 
--- a sheet s is sent bytes at a place among its sends: it is t then, and this is written of it
+-- sending bytes, at a place among the sends, changes the state from s to t and writes the text
 pub record WritesSend (s : State) (place : ℕ) (bs : List ℕ) (t : State) (text : List ℕ) : Type 0 where
   pub answer : Result (Unit {0}) Refusal
   pub step : Sends s bs answer t
   pub written : text ≡ send_text place answer
 
--- a page by stage is drawn from the sheet s, and this is written of it
+-- a page by stage is drawn from the state s and written as the text
 pub record WritesPage (s : State) (text : List ℕ) : Type 0 where
   pub places : List Figure
   pub after : List Figure

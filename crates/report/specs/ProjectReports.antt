@@ -1,4 +1,4 @@
--- The account of a project: what is written of its sheet.
+-- The report of a project: the text of its sheet's calls.
 use Rattle.std.specs.Prelude.{◌≡◌, ℕ, ◌<◌, List, [], ◌∷◌, ◌++◌, length, map, reverse, Ok, Result}
 use Rattle.refusals.specs.declared.refusal.Refusal.{Refusal}
 use Rattle.factors.specs.Layers.{project_map}
@@ -15,13 +15,14 @@ use Rattle.report.specs.Calls.{history_text}
 use Rattle.report.specs.ReportLines.{page_lines, grade_line}
 use Rattle.report.specs.Projects.{ProjectParts}
 
--- what is sent of bytes: each of their notes, and then what is left, if any is, that begins with none
+-- the sends of bytes: each of their notes, and last the bytes that are left, if any, which begin with no note
 pub data SplitsIntoSends : List ℕ → List (List ℕ) → Type 0 where
   ended : {bs : List ℕ} → bs ≡ [] → SplitsIntoSends bs []
   unframed : {bs : List ℕ} → 0 < length bs → (IsFramed bs → ⊥) → SplitsIntoSends bs (bs ∷ [])
   note : {bs : List ℕ} {more : List (List ℕ)} (n rest : List ℕ) → IsOneNote n → bs ≡ n ++ rest → SplitsIntoSends rest more → SplitsIntoSends bs (n ∷ more)
 
--- all of the bytes are sent into a sheet that was just opened: it is t then, and this is written of it. The latest answers stand first
+-- all of the bytes are sent into a sheet that was just opened: t is its state then, and this text is written. The
+-- latest answers stand first
 pub record SendsAll (b : BuildingNumbers) (factor_map : FactorMap) (bs : List ℕ) (t : State) (text : List ℕ) : Type 0 where
   pub sends : List (List ℕ)
   pub sent : SplitsIntoSends bs sends
@@ -35,7 +36,7 @@ abbrev pub SendsAllFrom : State → List ℕ → State → List ℕ → Type 0
 SendsAllFrom s bs t text =
     (b : BuildingNumbers) (factor_map : FactorMap) → s ≡ new_state b factor_map → SendsAll b factor_map bs t text
 
--- the account of a project is what is written of just these calls of its sheet: all is sent, then comes a page by stage, and then the grade
+-- the report of a project is the text of these calls: all is sent, then come a page by stage and the grade
 pub record IsProjectReport (c : ProjectParts) (text : List ℕ) : Type 0 where
   pub sends : List (List ℕ)
   pub sent : SplitsIntoSends c.notes sends
@@ -46,7 +47,7 @@ pub record IsProjectReport (c : ProjectParts) (text : List ℕ) : Type 0 where
   pub calls : SendsThenDraws c.building (project_map c.rows) sends by_stage places (Ok total) after grade
   pub written : text ≡ history_text (grade_event grade ∷ (page_event by_stage places (Ok total) after ∷ send_events calls.answered))
 
--- an account ends with a page and a grade of which the law over histories holds; what stands before them, `Accounts` says
+-- a report ends with a lawful page and a lawful grade; `IsProjectReport` says what comes before them
 pub record EndsLawfully (c : ProjectParts) (text : List ℕ) : Type 0 where
   pub sends : List (List ℕ)
   pub sent : SplitsIntoSends c.notes sends

@@ -5,15 +5,15 @@ use Rattle.refusals.specs.declared.refusal.Refusal.{Refusal}
 use Rattle.refusals.specs.Refusals.{refusal_number}
 use Rattle.pages.specs.declared.figure.Figure.{Figure}
 
--- what is refused: its place among what is sent, from 1, or 0 where it comes before that, and the number of its refusal
+-- a refusal: its place among the sends, from 1, or 0 where it comes before them, and its number
 abbrev pub denied_line : ℕ → Refusal → List ℕ
 denied_line place f = codes "denied " ++ (decimal place ++ (codes " " ++ (decimal (refusal_number f) ++ codes "\n")))
 
--- what is printed under a heading: its kilograms, and of how many entries they are
+-- a heading's kilograms and the number of its entries
 abbrev pub figure_line : List ℕ → Figure → List ℕ
 figure_line heading f = heading ++ (codes " " ++ (signed_decimal f.kilograms ++ (codes " " ++ (decimal f.count ++ codes "\n"))))
 
--- a line for each heading, from the one with the number k on
+-- a line for each heading, the first of them with the number k
 abbrev pub heading_lines : ℕ → List Figure → List ℕ
 heading_lines k [] = []
 heading_lines k (f ∷ fs) = figure_line (decimal k) f ++ heading_lines (k + 1) fs

@@ -1,15 +1,17 @@
-//! The whole report.
+//! The report of a feed.
 ghost use Rattle.std.specs.Prelude.{◌≡◌, ℕ, List, IfOk, string_bytes};
 ghost use Rattle.report.specs.Reports.{IsReportText, IsLawfulReport};
 ghost use Rattle.feed.specs.Writing.{IsOnlyText};
 
+use crate::project::Project;
 use crate::project_report::project_report;
 use crate::report_lines::denied_line;
-use crate::project::Project;
 use feed::OpeningError;
 use std::alloc::{AllocError, Global};
 
-/// What is written for a feed. One whose beginning is refused has a line for that. Any other has a line for each send that is refused, then the page by stage and the grade.
+/// The report of a feed's bytes: a line for each refused send, the page by stage and the grade. A feed that is refused
+/// before anything is sent, by `Unframed` (1) to `OutOfRange` (4), `TooManyRows` (24) or `FeedTooLong` (25), has the
+/// one line `denied 0 NUMBER`.
 pub fn report(heap: Global, feed: &[u8]) -> Result<String, AllocError>
     ensures value { IfOk result (λ text. IsReportText feed.now (string_bytes text)) }
     ensures only { IfOk result (λ text. IsOnlyText (IsReportText feed.now) (string_bytes text)) }

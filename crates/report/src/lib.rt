@@ -1,13 +1,13 @@
-//! What is written for a feed: why it is refused before anything is sent, or which sends are, the page by stage, and the grade.
+//! The report of a feed: the refusal of the feed, or its refused sends, the page by stage and the grade.
 #![tactic(auto)]
 
+mod feed_report;
+mod project;
 mod project_report;
 mod report_lines;
-mod project;
 mod sending;
-mod feed_report;
 mod writing;
 
-pub use report_lines::{denied_line, grade_line, page_lines, stage_line, total_line};
 pub use feed_report::report;
+pub use report_lines::{denied_line, grade_line, page_lines, stage_line, total_line};
 pub use writing::write_report;

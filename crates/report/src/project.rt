@@ -1,4 +1,4 @@
-//! A project: the building that a feed opens with, and its own factors.
+//! A project: the building that a feed opens with, and the project's own factors.
 ghost use Rattle.std.specs.Prelude.{List, ℕ, ◌≤◌, length};
 ghost use Rattle.feed.specs.Readings.{ReadsFactorRow};
 ghost use Rattle.feed.specs.FactorRows.{ReadsEachRow};
@@ -11,19 +11,20 @@ use feed::{MAX_BYTES, Opening, OpeningError};
 use refusals::Refusal;
 use std::alloc::Global;
 
-// The most rows that a project lists.
+// The largest number of rows in a project's list.
 const MAX_ROWS: usize = 256;
 
 #[derive(Debug, Drop)]
 pub(crate) struct Project<'a> {
     pub building: Building,
     pub rows: Vec<FactorRow>,
-    /// what comes after those, to be sent
+    // The bytes after the rows, which are sent.
     pub notes: &'a [u8],
 }
 
 impl<'a> Project<'a> {
-    // What the feed opens with, unless a factor row is refused.
+    // Reads the project that a feed opens with. Refused by `FeedTooLong` (25), by 1 to 4 where the building or a row
+    // is, or by `TooManyRows` (24).
     pub(crate) fn read(heap: Global, feed: &'a [u8]) -> Result<Project<'a>, OpeningError>
         ensures { ReadsProject feed.now result }
     {
@@ -47,7 +48,7 @@ fn check_length(feed: &[u8]) -> Result<(), Refusal>
     Ok(())
 }
 
-// The project's own factors, from what reading each row answered: all rows, or the refusal of the first that is refused.
+// The project's own factors: every row, or the refusal of the first that is refused.
 fn own_rows(
     heap: Global,
     answers: &[Result<FactorRow, Refusal>],
@@ -62,7 +63,7 @@ fn own_rows(
     Ok(rows)
 }
 
-// The row after so many others.
+// A row that comes after `before` others.
 fn own_row(answer: Result<FactorRow, Refusal>, before: usize) -> Result<FactorRow, Refusal>
     ensures { (note : List ℕ) → ReadsFactorRow note answer → ReadsRow before note result }
 {

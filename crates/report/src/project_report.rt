@@ -1,19 +1,19 @@
-//! The account of a project.
+//! The report of a project.
 ghost use Rattle.std.specs.Prelude.{IfOk, string_bytes};
 ghost use Rattle.report.specs.ProjectReports.{IsProjectReport};
 ghost use Rattle.report.specs.Calls.{WritesPage};
 ghost use Rattle.report.specs.Projects.{parts_of_project};
 ghost use Rattle.sheet.specs.States.{state_of};
 
-use crate::report_lines::{grade_line, page_lines};
 use crate::project::Project;
+use crate::report_lines::{grade_line, page_lines};
 use crate::sending::send_all;
 use factors::{FactorSource, ProjectFactors};
 use pages::{ByStage, Cut, Figure};
 use sheet::Sheet;
 use std::alloc::{AllocError, Global};
 
-// What of a project's notes is refused, and the page and the grade that the rest comes to.
+// The lines of the refused sends, then the page by stage and the grade.
 pub(crate) fn project_report(heap: Global, project: &Project) -> Result<String, AllocError>
     ensures { IfOk result (λ text. IsProjectReport (parts_of_project project.now) (string_bytes text)) }
 {

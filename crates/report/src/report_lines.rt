@@ -8,7 +8,8 @@ use pages::Figure;
 use refusals::Refusal;
 use std::alloc::{AllocError, Global};
 
-/// The line for what is refused, by its place among what is sent, or 0 where it comes before that.
+/// The line `denied PLACE NUMBER` of a refusal. The place counts the sends from 1, or is 0 for a feed that is refused
+/// before anything is sent.
 pub fn denied_line(heap: Global, place: usize, refusal: Refusal) -> Result<String, AllocError>
     ensures { IfOk result (λ s. string_bytes s ≡ denied_bytes place refusal) }
 {
@@ -16,7 +17,7 @@ pub fn denied_line(heap: Global, place: usize, refusal: Refusal) -> Result<Strin
     format!(in heap; "denied {place} {number}\n")
 }
 
-/// The line for a stage, by its number.
+/// The line `STAGE KILOGRAMS COUNT` of a stage, by its number.
 pub fn stage_line(heap: Global, stage: usize, figure: &Figure) -> Result<String, AllocError>
     ensures { IfOk result (λ s. string_bytes s ≡ figure_bytes (decimal stage) figure.now) }
 {
@@ -25,7 +26,7 @@ pub fn stage_line(heap: Global, stage: usize, figure: &Figure) -> Result<String,
     format!(in heap; "{stage} {kilograms} {count}\n")
 }
 
-/// The line for the total.
+/// The line `total KILOGRAMS COUNT` of the total.
 pub fn total_line(heap: Global, total: &Figure) -> Result<String, AllocError>
     ensures { IfOk result (λ s. string_bytes s ≡ figure_bytes (codes "total") total.now) }
 {
@@ -34,7 +35,7 @@ pub fn total_line(heap: Global, total: &Figure) -> Result<String, AllocError>
     format!(in heap; "total {kilograms} {count}\n")
 }
 
-/// A line for each stage, and one for the total.
+/// The lines of a page: one for each figure, numbered from 1, and one for the total.
 pub fn page_lines(heap: Global, stages: &[Figure], total: &Figure) -> Result<String, AllocError>
     ensures { IfOk result (λ s. string_bytes s ≡ page_bytes stages.now total.now) }
 {
@@ -48,7 +49,7 @@ pub fn page_lines(heap: Global, stages: &[Figure], total: &Figure) -> Result<Str
     Ok(text)
 }
 
-/// The line for a grade.
+/// The line `grade GRADE`, by the grade's number.
 pub fn grade_line(heap: Global, grade: Grade) -> Result<String, AllocError>
     ensures { IfOk result (λ s. string_bytes s ≡ grade_bytes (grade_number grade)) }
 {

@@ -1,4 +1,4 @@
-//! Sending notes into a sheet.
+//! Sending the notes of a feed into a sheet.
 ghost use Rattle.std.specs.Prelude.{◌≡◌, IfOk, string_bytes};
 ghost use Rattle.factors.specs.Maps.{FactorMap};
 ghost use Rattle.domain.specs.declared.building.BuildingNumbers.{BuildingNumbers};
@@ -12,7 +12,7 @@ use feed::{Part, Reader};
 use sheet::Sheet;
 use std::alloc::{AllocError, Global};
 
-// Sends every note, in order, and last what is left that is no note; answers the lines for those that are refused.
+// Sends every note in order, and last the bytes that are left, if any. Returns the lines of the refused sends.
 #[tactic(auto, using(feed::proofs::Ending::fewer_left))]
 pub(crate) fn send_all<S: FactorSource>(
     heap: Global,
@@ -39,7 +39,7 @@ pub(crate) fn send_all<S: FactorSource>(
     Ok(text)
 }
 
-// Sends the first note of a part, and answers the line for its refusal, or nothing where it is let in.
+// Sends the first note of a part. Returns the line of its refusal, or no text where it is let in.
 fn send<S: FactorSource>(
     heap: Global,
     sheet: &mut Sheet<S>,

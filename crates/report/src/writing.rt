@@ -1,4 +1,4 @@
-//! The report of what a reader has, written to a writer.
+//! Reading a feed and writing its report.
 ghost use Rattle.std.specs.Prelude.{IfSome, OnOk};
 ghost use Rattle.feed.specs.Writing.{WritesText, WritesFor};
 ghost use Rattle.report.specs.Reports.{IsReport};
@@ -8,7 +8,8 @@ use feed::read_feed;
 use std::alloc::Global;
 use std::io::{self, Read, Write};
 
-/// Reads a feed, and writes its report as a whole: where it cannot be made, nothing is written.
+/// Reads a feed, and writes its report as a whole. Errs where reading, memory or writing fails; only where writing
+/// itself fails may a part have been written. Of a feed that is too long, no more than 65,537 bytes are read.
 pub fn write_report<R: Read + Drop, W: Write>(
     heap: Global,
     reader: R,

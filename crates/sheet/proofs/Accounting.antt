@@ -1,4 +1,4 @@
--- An account: its sends, one after the other, and what is promised of its page and its grade.
+-- All the calls of a sheet: its sends one after the other, and what is promised of its page and its grade.
 use Rattle.std.proofs.Common.{◌≡◌, ℕ, List, [], ◌∷◌, ◌++◌, take, map, reverse, Ok, Err, Result, IfOk, sym, refl, ap, ◌∙◌, subst}
 use Rattle.std.proofs.lemmas.List.{reverse-append}
 use Rattle.refusals.specs.declared.refusal.Refusal.{Refusal}
@@ -20,7 +20,7 @@ sends_sendings (a ∷ answered) = ap (λ bytes. a.0 ∷ bytes) (sends_sendings a
 pub bytes_are : (answered : List (List ℕ × Result (Unit {0}) Refusal)) (bytes : List (List ℕ)) → map (λ a. a.0) answered ≡ bytes → sent_bytes (send_events answered) ≡ bytes
 bytes_are answered bytes e = sends_sendings answered ∙ e
 
--- the sheet after it was sent these bytes, in this order, and nothing else was asked of it
+-- the sheet after these sends, in this order, with no other call between them
 pub record SoFar (b : BuildingNumbers) (factor_map : FactorMap) (bytes : List (List ℕ)) (s : State) : Type 0 where
   pub answered : List (List ℕ × Result (Unit {0}) Refusal)
   pub history : History b factor_map (send_events answered) s
@@ -34,7 +34,7 @@ one_sent {before = before} {bs = bs} {r = r} h step is =
     record { answered = (bs, r) ∷ h.answered; history = send h.history step; sent = ap (λ xs. bs ∷ xs) h.sent ∙ sym (ap reverse is ∙ reverse-append before (bs ∷ [])) }
 
 module _ {b : BuildingNumbers} {factor_map : FactorMap} {bytes : List (List ℕ)} {cut : Assignment} {places : List Figure} {r : Result Figure Refusal} {after : List Figure} {n : ℕ} where
-  -- when all of the bytes were sent, a page and a grade come
+  -- after the last send, a page and a grade follow
   pub accounted : {before : List (List ℕ)} {s : State} → SoFar b factor_map before s → before ≡ bytes → DrawsPage s cut places r after → GivesGrade s n → SendsThenDraws b factor_map bytes cut places r after n
   accounted {s = s} h all pages grades = record { answered = h.answered; last = s; sent = h.sent ∙ ap reverse all; history = grade (page h.history pages) grades }
 

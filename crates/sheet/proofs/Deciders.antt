@@ -1,11 +1,12 @@
--- Which notes of a roll decide: for each of its numbers there is one, and only one.
+-- The notes of a roll that decide: one for each of its numbers, and no other.
 use Rattle.std.proofs.Common.{◌≡◌, ℕ, ◌<◌, ◌≤◌, ◌⊎◌, List, [], ◌∷◌, ◌++◌, map, Bool, true, false, if◌then◌else◌, ◌==◌, nat_lt, inl, inr, ⊎_elim, sym, refl, ap, ◌∙◌, subst, arith}
 use Rattle.std.specs.List.{AllByRecursion}
 use Rattle.sheet.specs.RollNotes.{RollNote}
 use Rattle.sheet.specs.Placing.{IsAmong}
 use Rattle.sheet.specs.Rolls.{numbers_with, numbers, Decides, AllDecide, none, one}
 
--- the deciding notes with a note that comes after them: it takes the place of the one under its number if it is of a higher revision, or else a place of its own
+-- the deciding notes after one more note: it replaces the one under its number if its revision is higher, or is added
+-- if its number is new
 abbrev pub enter : RollNote → List RollNote → List RollNote
 enter n [] = n ∷ []
 enter n (m ∷ ms) = if m.number == n.number then (if nat_lt m.revision n.revision then n else m) ∷ ms else m ∷ enter n ms
@@ -17,7 +18,7 @@ decide (n ∷ roll) = enter n (decide roll)
 abbrev pub names : List RollNote → List ℕ
 names ns = map (λ n. n.number) ns
 
--- a test, by its two answers
+-- a fact about a test, from both of its results
 by_test : (P : Bool → Type 0) (t : Bool) → (t ≡ true → P true) → (t ≡ false → P false) → P t
 by_test P true on off = on refl
 by_test P false on off = off refl
@@ -37,7 +38,7 @@ enters n (m ∷ ms) =
     (λ l. ahead (grind arith) (grind arith)) (λ l. behind (grind arith) (grind arith)))
     (λ e. past (λ i. grind arith) (enters n ms))
 
--- what holds of all, and of the note that enters
+-- what holds of the notes and of the one that enters holds after it has entered
 pub all_enter : (P : RollNote → Type 0) {n : RollNote} {ms ns : List RollNote} → Enters n ms ns → P n → AllByRecursion P ms → AllByRecursion P ns
 all_enter P last p a = (p, tt)
 all_enter P (ahead e l) p a = (p, a.1)
@@ -80,7 +81,7 @@ unlisted k r (n ∷ roll) o = (
   unlisted k r roll (λ a. o (among_with k n.number (numbers roll) a)),
 )
 
--- no two of the notes have one number
+-- no two of the notes have the same number
 abbrev Distinct : List RollNote → Type 0
 Distinct [] = Unit {0}
 Distinct (m ∷ ms) = (IsAmong m.number (names ms) → ⊥) × Distinct ms
@@ -113,7 +114,7 @@ abbrev DecidesIn : List RollNote → RollNote → Type 0
 DecidesIn roll m = Decides roll m.number m
 
 module _ (n : RollNote) (roll : List RollNote) where
-  -- a note goes on deciding where no higher revision comes
+  -- a note still decides where no higher revision of its number comes
   keeps : {m : RollNote} → DecidesIn roll m → (n.number ≡ m.number → n.revision ≤ m.revision) → DecidesIn (n ∷ roll) m
   keeps d h = record { later = n ∷ d.later; earlier = d.earlier; found = ap (λ ms. n ∷ ms) d.found; named = refl; highest = (h, d.highest); first = d.first }
 
@@ -121,7 +122,7 @@ module _ (n : RollNote) (roll : List RollNote) where
   keep [] a o = tt
   keep (m ∷ ms) a o = (keeps a.0 (λ i. absurd (o (inl (sym i)))), keep ms a.1 (λ h. o (inr h)))
 
-  -- the new note decides where those under its number have lower revisions
+  -- a new note decides where the notes under its number have lower revisions
   takes : AllByRecursion (Below n.number n.revision) roll → DecidesIn (n ∷ roll) n
   takes lower = record {
     later = [];
@@ -151,13 +152,13 @@ deciding_of : (roll ns : List RollNote) → AllByRecursion (DecidesIn roll) ns �
 deciding_of roll [] a = none
 deciding_of roll (n ∷ ns) a = one a.0 (deciding_of roll ns a.1)
 
--- for each number of a roll a note decides
+-- a note decides for each number of a roll
 pub deciding : (roll : List RollNote) → AllDecide roll (numbers roll) (decide roll)
 deciding roll = subst (λ ks. AllDecide roll ks (decide roll)) (names_decide roll) (deciding_of roll (decide roll) (decides_all roll))
 
 -- ---- only one note decides
 
--- x stands in a list, and P holds of all that stand after it
+-- x is in a list, and P holds of all elements after it
 data Stands {X : Type 0} (P : X → Type 0) (x : X) : List X → Type 0 where
   here : {xs : List X} → AllByRecursion P xs → Stands P x (x ∷ xs)
   there : {y : X} {xs : List X} → Stands P x xs → Stands P x (y ∷ xs)
@@ -170,7 +171,7 @@ holds_at : {X : Type 0} {P : X → Type 0} {x : X} {xs : List X} (Q : X → Type
 holds_at Q (here p) a = a.0
 holds_at Q (there s) a = holds_at Q s a.1
 
--- of two that stand in a list, one stands after the other, or they are one
+-- of two elements of a list, one is after the other, or they are the same
 one_after : {X : Type 0} {P Q : X → Type 0} {x y : X} {xs : List X} → Stands P x xs → Stands Q y xs → (x ≡ y) ⊎ (Q x ⊎ P y)
 one_after (here p) (here q) = inl refl
 one_after {P = P} (here p) (there t) = inr (inr (holds_at P t p))

@@ -1,4 +1,4 @@
--- The law over the calls of a sheet.
+-- The law over every history of a sheet.
 use Rattle.std.proofs.Common.{◌≡◌, ℕ, ◌+◌, ◌*◌, List, [], ◌∷◌, ◌++◌, take, Ok, Err, ℤ, pos, ◌+ℤ◌, ◌*ℤ◌, ◌≤ℤ◌, sym, ap, ◌∙◌, subst, arith}
 use Rattle.std.proofs.lemmas.Int.{ints}
 use Rattle.std.specs.List.{AllByRecursion}
@@ -25,7 +25,7 @@ use Rattle.sheet.proofs.Exactly.{Fit, Away, away_sum, sums_add, lines_taken, ent
 use Rattle.sheet.proofs.Rolling.{roll_counts}
 use Rattle.sheet.proofs.Standing.{Standing, nothing_sent, sent_once}
 
--- near the booked grams, and these at most n halves from the exact ones
+-- kilograms near the booked grams, which are at most n halves away from the exact ones, are near these
 near_exact : {kg g : ℤ} {n : ℕ} {x : Fraction} → IsNearGrams kg g → Away n g x → IsNear kg n x
 near_exact {kg} {g} {n} {x} near away =
     let d = x.divisor in
@@ -40,7 +40,7 @@ near_exact {kg} {g} {n} {x} near away =
     }
 
 module _ (b : BuildingNumbers) (factor_map : FactorMap) where
-  -- what a sheet holds after its calls
+  -- the state of a sheet after its calls
   standing : {calls : List Event} {s : State} → History b factor_map calls s → Standing b factor_map (sent_bytes calls) s
   standing new = nothing_sent b factor_map
   standing (send before step) = sent_once b factor_map (standing before) step
@@ -52,14 +52,14 @@ module _ (b : BuildingNumbers) (factor_map : FactorMap) where
     state : State
     history : History b factor_map calls state
 
-  -- a run up to an earlier call
+  -- a history, up to an earlier call
   up_to : (later calls : List Event) {s : State} → History b factor_map (later ++ calls) s → Had calls
   up_to [] calls {s} r = record { state = s; history = r }
   up_to (e ∷ later) calls (send before step) = up_to later calls before
   up_to (e ∷ later) calls (page before step) = up_to later calls before
   up_to (e ∷ later) calls (grade before step) = up_to later calls before
 
-  -- calls that accept no send leave the sheet as it was
+  -- calls that accept no send leave the state as it was
   unchanged : (later calls : List Event) {s : State} → NoneAccepted later → History b factor_map (later ++ calls) s → History b factor_map calls s
   unchanged [] calls none r = r
   unchanged (send_event bs (Ok u) ∷ later) calls none r = absurd none

@@ -1,4 +1,4 @@
--- A number's place: the first that has it, or none; and what is put there.
+-- Putting a place into a book, at the index of its number or, where it has none, at the next.
 use Rattle.std.proofs.Common.{◌≡◌, ℕ, ◌+◌, ◌<◌, ◌≤◌, List, [], ◌∷◌, ◌++◌, length, get_or, set, take, map, Some, None, Option, Ok, Err, ◌==◌, Bool, inl, inr, ⊎_elim, ap, ◌∙◌, sym, refl, subst, arith, length-take}
 use Rattle.std.specs.List.{position, position_or_len}
 use Rattle.std.proofs.lemmas.List.{length-map, get_or-take, take_more_set}
@@ -13,11 +13,11 @@ use Rattle.sheet.specs.declared.place.Place.{Place}
 use Rattle.sheet.specs.Places.{PlaceNumbers, place_numbers, used_places, book_places}
 use Rattle.sheet.specs.Placing.{place_under, IsAmong, HasRoom, replacing_conditions, places_with, Puts}
 
--- what stands in a place that is not in use
+-- a place that is not in use
 abbrev pub empty : Place
 empty = record { number = 0; revision = 0; content = Withdrawn }
 
--- the numbers of places that are taken
+-- the numbers of places
 abbrev pub numbers_of : List PlaceNumbers → List ℕ
 numbers_of ts = map (λ t. t.number) ts
 
@@ -49,7 +49,7 @@ module _ (k : ℕ) where
   added [] new l e = refl
   added (p ∷ ps) new l e = grind (arith, added ps new)
 
--- where a position is told, it is that of the first
+-- where `position` finds an index, it is the first
 located : {X : Type 0} (p : X → Bool) (xs : List X) {at : ℕ} → position p xs ≡ Some at → (position_or_len p xs ≡ at) × (at < length xs)
 located p xs e = grind arith
 
@@ -69,7 +69,7 @@ module _ (new : Place) (book : Book) where
   abbrev room_conditions_of : Conditions
   room_conditions_of = (refusal_number BookFull, HasRoom (numbers_of (book_places book)) k) ∷ []
 
-  -- ---- its number is found at a place
+  -- ---- the number has a place
 
   module _ {at : ℕ} (e : position (λ p. p.number == new.number) (used_places book) ≡ Some at) where
     abbrev old : PlaceNumbers
@@ -90,7 +90,7 @@ module _ (new : Place) (book : Book) where
     replaced_there : map place_numbers (take book.used (set book.places at new)) ≡ places_with (place_numbers new) (book_places book)
     replaced_there = ap (map place_numbers) (take-set-lt book.used book.places at new used.0) ∙ subst (λ i. map place_numbers (set ps i new) ≡ places_with (place_numbers new) (book_places book)) at_is (replaced k ps new within refl)
 
-    -- a line is refused by the book for what the one that it would replace refuses it for
+    -- a place is refused by the book where the one of its number refuses to be replaced
     pub puts_nothing : {f : Refusal} → IsLeastFailing (line_conditions (Some old)) (refusal_number f) → Puts new book (Err f) book
     puts_nothing {f} least = record {
       answer = subst (λ o. IsLeastFailing (line_conditions o ++ room_conditions_of) (refusal_number f)) (sym here) (least_stop (line_conditions (Some old)) room_conditions_of (refusal_number f) refl least);
@@ -105,7 +105,7 @@ module _ (new : Place) (book : Book) where
       refused = tt;
     }
 
-  -- ---- its number is not found
+  -- ---- the number has no place
 
   module _ (whole : length book.places ≡ 512) (e : position (λ p. p.number == new.number) (used_places book) ≡ None) where
     none : length ps ≤ first k ps

@@ -34,7 +34,7 @@ module _ (y : ℕ) (factor_map : FactorMap) where
   under_past : (n m : RollNote) (ms : List RollNote) → (m.number ≡ n.number → ⊥) → place_under n.number (map line (m ∷ ms)) ≡ place_under n.number (map line ms)
   under_past n m ms o = grind arith
 
-  -- a line that is ahead of what is held takes its place, and so does its note among those that decide
+  -- a place that is ahead of its number's and agrees with it replaces it, and so does its note among those that decide
   pub places_enter : {n : RollNote} {ms ns : List RollNote} → Enters n ms ns → IsAhead (line n) (place_under n.number (map line ms)) → Agrees (line n) (place_under n.number (map line ms)) → places_with (line n) (map line ms) ≡ map line ns
   places_enter last a g = refl
   places_enter (ahead e l) a g = grind arith
@@ -48,7 +48,7 @@ module _ (y : ℕ) (factor_map : FactorMap) where
       let held = under_past n m ms o in
       grind (arith, places_enter r (subst (IsAhead (line n)) held a) (subst (Agrees (line n)) held g))
 
-  -- a line that is not ahead, or contradicts what is held, has a number that is held, and its note decides nothing
+  -- a place that is behind its number's, or contradicts it, has a number that is held, and its note decides nothing
   pub stays : {n : RollNote} {ms ns : List RollNote} → Enters n ms ns → (IsAhead (line n) (place_under n.number (map line ms)) → Agrees (line n) (place_under n.number (map line ms)) → ⊥) → IsAmong n.number (names ms) × (ns ≡ ms)
   stays last h = absurd (h tt tt)
   stays {n} (ahead {m} {ms} e l) h =
@@ -59,7 +59,7 @@ module _ (y : ℕ) (factor_map : FactorMap) where
       let s = stays r (subst (λ o. IsAhead (line n) o → Agrees (line n) o → ⊥) (under_past n m ms o) h) in
       (inr s.0, ap (λ ns. m ∷ ns) s.1)
 
--- by a roll of sends the entries count of the notes that decide on it
+-- the entries of the notes that decide on the roll of sends are those that are counted
 pub roll_counts : {y : ℕ} {factor_map : FactorMap} {sends : List (List ℕ)} {roll : List RollNote} → IsRoll y factor_map sends roll → AreCounted y factor_map sends (entries_of (decide roll))
 roll_counts {y} {factor_map} {roll = roll} is =
     record {

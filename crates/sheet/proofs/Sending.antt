@@ -1,4 +1,4 @@
--- What a send answers, step by step.
+-- The answer to a send, condition by condition.
 use Rattle.std.proofs.Common.{◌≡◌, ℕ, List, ◌++◌, Some, None, Option, Ok, Err, Result, refl, subst}
 use Rattle.refusals.specs.declared.refusal.Refusal.{Refusal}
 use Rattle.refusals.specs.Refusals.{refusal_number, lack_number, AllHold, IsLeastFailing, GivesOrRefuses}
@@ -17,13 +17,13 @@ use Rattle.sheet.specs.Places.{PlaceNumbers, place_numbers, book_places}
 use Rattle.sheet.specs.Placing.{placing_conditions, places_with, Puts}
 use Rattle.sheet.specs.States.{State, content_conditions, send_conditions, sent_place, Sends}
 
--- what is asked of a note's content stands in the order in which it is told
+-- the conditions on a note's content are in the order of their numbers
 content_in_order : (y : ℕ) (factor_map : FactorMap) (bs : List ℕ) (e : Option Entry) → InOrder (reading_conditions IsSent bs ++ entry_conditions y factor_map e)
 unfolding booking_conditions
 content_in_order y factor_map bs None = refl
 content_in_order y factor_map bs (Some e) = refl
 
--- and so does what is asked of a send
+-- so are the conditions of a send
 send_in_order : (y : ℕ) (factor_map : FactorMap) (bs : List ℕ) (e : Option Entry) (held : List PlaceNumbers) (new : PlaceNumbers) → InOrder ((reading_conditions IsSent bs ++ entry_conditions y factor_map e) ++ placing_conditions held new)
 unfolding booking_conditions
 send_in_order y factor_map bs None held new = refl
@@ -32,7 +32,7 @@ send_in_order y factor_map bs (Some e) held new = refl
 pub in_order : (s : State) (bs : List ℕ) → InOrder (send_conditions s bs)
 in_order s bs = send_in_order s.building.life s.factor_map bs (roll_note (first_note bs)).entry s.places (sent_place s bs)
 
--- a refusal that is none for want of a factor has no codes to name
+-- a refusal other than `FactorLacking` (8) names no codes
 unnamed : (y : ℕ) (factor_map : FactorMap) (e : Option Entry) (f : Refusal) → (refusal_number f ≡ lack_number → ⊥) → NamesLackOf y factor_map e f
 unnamed y factor_map None f other = tt
 unnamed y factor_map (Some e) f other = λ is. absurd (other is)
@@ -41,7 +41,7 @@ unnamed y factor_map (Some e) f other = λ is. absurd (other is)
 pub unread : (y : ℕ) (factor_map : FactorMap) (bs : List ℕ) (f : Refusal) → IsLeastFailing (reading_conditions IsSent bs) (refusal_number f) → IsLeastFailing (content_conditions y factor_map bs) (refusal_number f)
 unread y factor_map bs f = least_stop (reading_conditions IsSent bs) (entry_conditions y factor_map (roll_note (first_note bs)).entry) (refusal_number f) (content_in_order y factor_map bs (roll_note (first_note bs)).entry)
 
--- a note that is unfit is refused
+-- an unfit note is refused
 pub unfit : {s : State} {bs : List ℕ} {f : Refusal} → IsLeastFailing (content_conditions s.building.life s.factor_map bs) (refusal_number f) → NamesLackOf s.building.life s.factor_map (roll_note (first_note bs)).entry f → Sends s bs (Err f) s
 unfit {s} {bs} {f} least named = record {
   number = answered_least (send_conditions s bs) f (least_stop (content_conditions s.building.life s.factor_map bs) (placing_conditions s.places (sent_place s bs)) (refusal_number f) (in_order s bs) least);
@@ -50,11 +50,11 @@ unfit {s} {bs} {f} least named = record {
   named = named;
 }
 
--- a sheet by its building, its source's map, and its book
+-- the state of a sheet, by its building, its source's map and its book
 abbrev pub sheet_of : BuildingNumbers → FactorMap → Book → State
 sheet_of b factor_map book = record { building = b; factor_map = factor_map; places = book_places book }
 
--- a note that is fit is answered as the book answers
+-- a fit note is answered as the book answers
 pub fit : {b : BuildingNumbers} {factor_map : FactorMap} {bs : List ℕ} {new : Place} {before after : Book} {r : Result (Unit {0}) Refusal} → AllHold (content_conditions b.life factor_map bs) × (place_numbers new ≡ sent_place (sheet_of b factor_map before) bs) → Puts new before r after → Sends (sheet_of b factor_map before) bs r (sheet_of b factor_map after)
 fit {b = b} {factor_map = factor_map} {bs = bs} {before = before} {after = after} {r = Ok u} place puts =
     let s = sheet_of b factor_map before in

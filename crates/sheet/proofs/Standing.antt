@@ -1,4 +1,4 @@
--- What a sheet holds after its sends: the lines of the notes that decide.
+-- The state of a sheet after its sends: its book holds the places of the notes that decide.
 use Rattle.std.proofs.Common.{◌≡◌, ℕ, List, [], ◌∷◌, ◌++◌, map, Ok, Err, Result, inl, inr, ⊎_elim, sym, refl, ◌∙◌, subst}
 use Rattle.std.specs.List.{AllByRecursion}
 use Rattle.refusals.specs.declared.refusal.Refusal.{Refusal}
@@ -23,11 +23,11 @@ module _ (b : BuildingNumbers) (factor_map : FactorMap) where
   abbrev y : ℕ
   y = b.life
 
-  -- a sheet that holds the lines of the notes that decide on a roll
+  -- the state in which the book holds the places of the notes that decide on a roll
   abbrev pub holding : List RollNote → State
   holding roll = record { building = b; factor_map = factor_map; places = map (note_place y factor_map) (decide roll) }
 
-  -- a sheet after sends
+  -- the state after sends
   pub record Standing (sends : List (List ℕ)) (s : State) : Type 0 where
     pub roll : List RollNote
     pub is_roll : IsRoll y factor_map sends roll
@@ -37,7 +37,7 @@ module _ (b : BuildingNumbers) (factor_map : FactorMap) where
   pub nothing_sent : Standing [] (new_state b factor_map)
   nothing_sent = record { roll = []; is_roll = empty; holds = refl; sound = tt }
 
-  -- a sheet that stands, with bytes that are sent
+  -- such a state, and bytes that are sent next
   module _ {sends : List (List ℕ)} {roll : List RollNote} (is_roll : IsRoll y factor_map sends roll) (sound : AllByRecursion (Sound y factor_map) (decide roll)) (bs : List ℕ) where
     abbrev ns : List RollNote
     ns = decide roll
@@ -57,7 +57,7 @@ module _ (b : BuildingNumbers) (factor_map : FactorMap) where
     abbrev book_conditions : Conditions
     book_conditions = placing_conditions held new
 
-    -- the numbers in the book are those of the roll
+    -- the numbers in the book are those on the roll
     same_numbers : map (λ t. t.number) held ≡ numbers roll
     same_numbers = places_numbers y factor_map ns ∙ names_decide roll
 
@@ -74,7 +74,7 @@ module _ (b : BuildingNumbers) (factor_map : FactorMap) where
           sound = all_enter (Sound y factor_map) (enters n ns) (right_hold (reading_conditions IsSent bs) (entry_conditions y factor_map n.entry) asks) sound;
         }
 
-    -- a line that is behind the one under its number
+    -- a place that is behind that of its number, or contradicts it
     behind : (IsUnfit y factor_map bs → ⊥) → (IsAhead new (place_under n.number held) → Agrees new (place_under n.number held) → ⊥) → Standing (bs ∷ sends) (holding roll)
     behind fit h =
         let s = stays y factor_map (enters n ns) h in
@@ -85,11 +85,11 @@ module _ (b : BuildingNumbers) (factor_map : FactorMap) where
           sound = subst (AllByRecursion (Sound y factor_map)) (sym s.1) sound;
         }
 
-    -- a line for which there is no room
+    -- a place for which there is no room
     no_room : (IsUnfit y factor_map bs → ⊥) → (HasRoom (map (λ t. t.number) held) new.number → ⊥) → Standing (bs ∷ sends) (holding roll)
     no_room fit full = record { roll = roll; is_roll = without_room bs is_roll fit (λ room. full (subst (λ ks. HasRoom ks n.number) (sym same_numbers) room)); holds = refl; sound = sound }
 
-    -- what the book asks of a line, one after the other
+    -- a condition of the book fails, by each of its conditions
     unplaced_for : {k : ℕ} → (IsUnfit y factor_map bs → ⊥) → OneFails book_conditions k → Standing (bs ∷ sends) (holding roll)
     unplaced_for fit (inl superseded) = behind fit (λ ahead agrees. superseded.1 ahead)
     unplaced_for fit (inr (inl contradicted)) = behind fit (λ ahead agrees. contradicted.1 agrees)

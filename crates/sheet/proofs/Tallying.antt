@@ -16,7 +16,7 @@ use Rattle.sheet.specs.LineSums.{row_grams, row_count, line_in_range, held_lines
 use Rattle.sheet.specs.Places.{place_numbers}
 use Rattle.sheet.proofs.Places.{empty}
 
--- in any choice of rows, what stands in the rows and what is left to add come to what all comes to
+-- for any choice of rows, the rows so far and the values still to add sum to all values
 pub record ComesTo {X : Type 0} (none : X) (plus : X → X → X) (rows : List X) (left all : List (ℕ × X)) : Type 0 where
   pub comes : (choice : ℕ → Bool) → plus (sum_in none plus choice (numbered_rows 1 rows)) (sum_in none plus choice left) ≡ sum_in none plus choice all
 
@@ -40,16 +40,16 @@ module _ {X : Type 0} {none : X} {plus : X → X → X} (laws : Adds none plus) 
   unfolding sum_in
   all_added h choice = sym (laws.order _ none ∙ laws.with_none _) ∙ h.comes choice
 
--- the rows with what they come to, when these lines of the places are left to add
+-- the sums of rows so far, with these lines of the places still to add
 pub record Adding (places : List Place) (left : List LineNumbers) (grams : List ℤ) (counts : List ℕ) : Type 0 where
   pub summed : ComesTo (pos 0) ◌+ℤ◌ grams (map row_grams left) (map row_grams (held_lines (map place_numbers places)))
   pub counted : ComesTo 0 ◌+◌ counts (map row_count left) (map row_count (held_lines (map place_numbers places)))
 
--- the lines of the places from i on
+-- the lines of the places from index i on
 abbrev pub lines_from : List Place → ℕ → List LineNumbers
 lines_from places i = held_lines (map place_numbers (drop i places))
 
--- the rows when the lines of the first i places are added
+-- the sums of rows after the first i places
 pub record Tallied (places : List Place) (i : ℕ) (grams : List ℤ) (counts : List ℕ) : Type 0 where
   pub sums : Adding places (lines_from places i) grams counts
   pub in_bounds : sum_by unsigned_abs grams ≤ 100000000000000 * i
@@ -72,7 +72,7 @@ all_tallied {places} {i} {grams} {counts} h end =
     let sums = subst (λ left. Adding places left grams counts) none_left h.sums in
     (λ i. record { grams = λ choice. all_added whole sums.summed choice i; counts = λ choice. all_added natural sums.counted choice i })
 
--- a place's line as it is added: to a row by its index, in grams as they count
+-- a place's line as it is added: the index of its row, and its grams as they count there
 pub record Added (place : Place) (row : ℕ) (grams : ℤ) : Type 0 where
   pub line : LineNumbers
   pub is : line_in_range (place_numbers place).line ≡ Some line
@@ -83,7 +83,7 @@ pub record Added (place : Place) (row : ℕ) (grams : ℤ) : Type 0 where
 row_range : (row : Row) → IsRowNumber (row_number row)
 row_range row = grind arith
 
--- as the code tells of it
+-- such a line, from a booked line of the code
 pub as_added : {place : Place} {row : ℕ} {grams : ℤ} (line : BookedLine) → Some (line_numbers line) ≡ line_in_range (place_numbers place).line → row ≡ row_number line.row - 1 → grams ≡ signed_grams (is_subtracted (row_number line.row)) line.grams → Added place row grams
 as_added line is at counts_as =
     let range = row_range line.row in
@@ -97,16 +97,16 @@ grams_in_range : (o : Option LineNumbers) (l : LineNumbers) → line_in_range o 
 grams_in_range None l e = grind arith
 grams_in_range (Some m) l e = grind arith
 
--- a sum as the code has it
+-- a sum as the code calculates it
 abbrev pub sum_of : ℤ → ℤ → ℤ
 sum_of a b = to_z w64 (of_z w64 a) +ℤ to_z w64 (of_z w64 b)
 
 module _ {places : List Place} {i : ℕ} {gs : List ℤ} {ns : List ℕ} (h : Tallied places i gs ns) (more : i < length places) where
-  -- of what is left, the line of the next place comes first, if it has one
+  -- the line of the next place is the first that is still to add, if it has one
   next : {line : Option LineNumbers} → line_in_range (place_numbers (get_or places i empty)).line ≡ line → Adding places (option_to_list line ++ lines_from places (i + 1)) gs ns
   next is = subst (λ left. Adding places left gs ns) (ap (λ ps. held_lines (map place_numbers ps)) (drop_more places i empty more) ∙ ap (λ line. option_to_list line ++ lines_from places (i + 1)) is) h.sums
 
-  -- a place without a line
+  -- after a place without a line
   pub passed : line_in_range (place_numbers (get_or places i empty)).line ≡ None → Tallied places (i + 1) gs ns
   passed none = record { sums = next none; in_bounds = omega (arith, h.in_bounds); few = omega (arith, h.few); grams_rows = h.grams_rows; counts_rows = h.counts_rows }
 
@@ -126,7 +126,7 @@ module _ {places : List Place} {i : ℕ} {gs : List ℤ} {ns : List ℕ} (h : Ta
     pub sum_fits : FitsSigned w64 (sum_of (get_or gs row (pos 0)) grams)
     sum_fits = in_bounds_fits (get_or gs row (pos 0)) grams sum_in_bounds
 
-    -- a place with a line
+    -- after a place with a line
     tallied : Tallied places (i + 1) (set gs row (get_or gs row (pos 0) +ℤ grams)) (set ns row (get_or ns row 0 + 1))
     tallied = record {
       sums = record {

@@ -1,4 +1,4 @@
--- What holds of every page of a sheet that is not refused, and of every grade, whatever was sent, in whatever order.
+-- The law: what holds of every page that is not refused, and of every grade, for any sends in any order.
 use Rattle.std.specs.Prelude.{◌≡◌, ℕ, ◌+◌, ◌≤◌, List, [], ◌∷◌, ◌++◌, take, ℤ, pos, ◌+ℤ◌, ◌*ℤ◌, ◌<ℤ◌, Ok, Err}
 use Rattle.exact.specs.Rounding.{Fraction}
 use Rattle.factors.specs.Maps.{FactorMap}
@@ -13,21 +13,22 @@ use Rattle.sheet.specs.LineSums.{booked_sums, exact_sum_in}
 use Rattle.sheet.specs.Rolls.{AreCounted}
 use Rattle.sheet.specs.States.{State}
 
--- so many kilograms lie less than 1,000 + n / 2 grams from the exact grams x
+-- kg kilograms are less than 1,000 + n / 2 grams away from the exact grams x
 pub record IsNear (kg : ℤ) (n : ℕ) (x : Fraction) : Type 0 where
   pub least : (pos 2 *ℤ x.numerator) <ℤ ((pos 2000 *ℤ kg +ℤ pos (2000 + n)) *ℤ pos x.divisor)
   pub most : (pos 2000 *ℤ kg *ℤ pos x.divisor) <ℤ (pos 2 *ℤ x.numerator +ℤ pos (2000 + n) *ℤ pos x.divisor)
 
--- a page by a cut, in a building with a life of y years, at the factors of a map, after these bytes were sent, the latest first: its figures, one for each heading, and its total
+-- a lawful page by a cut: its figures, one for each heading, and its total, after these sends (the latest first), in a
+-- building with a life of y years, at the factors of a map
 pub record IsLawfulPage (y : ℕ) (factor_map : FactorMap) (bytes : List (List ℕ)) (cut : Assignment) (figures : List Figure) (total : Figure) : Type 0 where
-  -- the highest revision counts, and nothing else: the figures are those of the entries that count by what was sent
+  -- the highest revisions count, and nothing else: the figures are those of the entries that are counted
   pub entries : List Entry
   pub counts : AreCounted y factor_map bytes entries
   pub headings : figures ≡ page_figures cut (booked_sums y factor_map entries)
   pub totals : total ≡ total_figure (booked_sums y factor_map entries)
-  -- every run of headings is near the exact sum of the entries that it counts, each of its booked thousandths
+  -- any neighbouring headings are near the exact sum of the entries under them, which is of booked thousandths
   pub near : (i j : ℕ) → i ≤ j → j ≤ cut.size → IsNear (printed_kilograms (figures_between i j figures)) ((heading_sums cut (booked_sums y factor_map entries)).counts (is_between i j)) (exact_sum_in y factor_map (λ row. is_between i j (cut.heading row)) entries)
-  -- headings add to the total
+  -- the headings add to the total
   pub adds : AddUp figures total
 
 -- no send among these calls was accepted
@@ -38,7 +39,7 @@ NoneAccepted (send_event bs (Err f) ∷ calls) = NoneAccepted calls
 NoneAccepted (page_event cut places r after ∷ calls) = NoneAccepted calls
 NoneAccepted (grade_event n ∷ calls) = NoneAccepted calls
 
--- a grade, after these bytes were sent, the latest first: it is that of the entries that count by what was sent, by their booked grams
+-- a lawful grade after these sends, the latest first: that of the entries that are counted, by their booked grams
 pub record IsLawfulGrade (b : BuildingNumbers) (factor_map : FactorMap) (bytes : List (List ℕ)) (grade : ℕ) : Type 0 where
   pub entries : List Entry
   pub counts : AreCounted b.life factor_map bytes entries
@@ -46,11 +47,11 @@ pub record IsLawfulGrade (b : BuildingNumbers) (factor_map : FactorMap) (bytes :
 
 -- the law over the calls of one sheet, the latest first
 pub record IsLawful (b : BuildingNumbers) (factor_map : FactorMap) (history : List Event) : Type 0 where
-  -- of every page that was not refused
+  -- every page that is not refused is lawful
   pub pages : (later before : List Event) (cut : Assignment) (total : Figure) (places after : List Figure) → history ≡ later ++ (page_event cut places (Ok total) after ∷ before) → IsLawfulPage b.life factor_map (sent_bytes before) cut (take cut.size after) total
-  -- pages with no accepted send between them print the same total, by whatever cuts
+  -- pages with no accepted send between them have the same total, by any cuts
   pub steady : (later middle before : List Event) (cut cut' : Assignment) (total total' : Figure) (places after places' after' : List Figure) → history ≡ later ++ (page_event cut places (Ok total) after ∷ middle ++ (page_event cut' places' (Ok total') after' ∷ before)) → NoneAccepted middle → total ≡ total'
-  -- of every grade
+  -- every grade is lawful
   pub grades : (later before : List Event) (grade : ℕ) → history ≡ later ++ (grade_event grade ∷ before) → IsLawfulGrade b factor_map (sent_bytes before) grade
 
 -- whatever calls led to the sheet s, the law holds of them and of the call e after them

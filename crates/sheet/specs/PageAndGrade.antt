@@ -1,4 +1,4 @@
--- An account of a whole sheet, as a run of its calls.
+-- The history of a whole sheet: sends, a page and a grade.
 use Rattle.std.specs.Prelude.{◌≡◌, ℕ, List, ◌∷◌, map, reverse, Result, IfOk, take}
 use Rattle.refusals.specs.declared.refusal.Refusal.{Refusal}
 use Rattle.factors.specs.Maps.{FactorMap}
@@ -13,7 +13,8 @@ use Rattle.sheet.specs.Laws.{IsLawfulPage, IsLawfulGrade}
 abbrev pub send_events : List (List ℕ × Result (Unit {0}) Refusal) → List Event
 send_events answered = map (λ a. send_event a.0 a.1) answered
 
--- calls of one sheet over a building and a source's map, from its opening on: these bytes were sent, in this order and each with some answer, then came a page by the cut, which left places that held `places` with `after`, and then a grade. The latest stand first
+-- the calls of one sheet over a building and a source's map, the latest first: these bytes are sent in this order, then
+-- a page by the cut changes the places from `places` to `after`, then comes a grade
 pub record SendsThenDraws (b : BuildingNumbers) (factor_map : FactorMap) (bytes : List (List ℕ)) (cut : Assignment) (places : List Figure) (answer : Result Figure Refusal) (after : List Figure) (grade : ℕ) : Type 0 where
   pub answered : List (List ℕ × Result (Unit {0}) Refusal)
   pub last : State

@@ -1,4 +1,4 @@
--- What the places of a book hold, by numbers.
+-- The places of a book, by their numbers.
 use Rattle.std.specs.Prelude.{◌≡◌, ℕ, ◌+◌, ◌<◌, ◌⊎◌, List, length, set, take, map, Some, None, Option}
 use Rattle.booking.specs.Booking.{LineNumbers}
 use Rattle.booking.specs.Rows.{row_number}
@@ -8,7 +8,7 @@ use Rattle.sheet.specs.declared.place.PlaceContent.TheVariants.{Withdrawn, Entry
 use Rattle.sheet.specs.declared.place.Place.{Place}
 use Rattle.sheet.specs.declared.record.Record.{Record}
 
--- a place that is taken: by a line, or by none where it was withdrawn
+-- a place in use; it has no line where its number was withdrawn
 pub record PlaceNumbers : Type 0 where
   pub number : ℕ
   pub revision : ℕ
@@ -18,7 +18,7 @@ pub record PlaceNumbers : Type 0 where
 abbrev pub record_numbers : Record → LineNumbers
 record_numbers r = record { row = row_number r.row; span = r.span; code = r.code; thousandths = r.thousandths; grams = r.grams }
 
--- the line that is held, if there is one
+-- the line of a place's content, if it is an entry
 abbrev pub content_line : PlaceContent → Option LineNumbers
 content_line Withdrawn = None
 content_line (Entry r) = Some (record_numbers r)
@@ -27,17 +27,17 @@ content_line (Entry r) = Some (record_numbers r)
 abbrev pub place_numbers : Place → PlaceNumbers
 place_numbers p = record { number = p.number; revision = p.revision; line = content_line p.content }
 
--- the line new stands in one place, and every other place is as it was; the place was in use before, or is the next one
+-- one place is set to `new`, and every other place is unchanged; it was in use before, or is the next one
 pub record ChangesOnePlace (new : Place) (before after : Book) : Type 0 where
   pub at : ℕ
   pub within : at < length before.places
   pub places : after.places ≡ set before.places at new
   pub used : ((at < before.used) × (after.used ≡ before.used)) ⊎ ((at ≡ before.used) × (after.used ≡ before.used + 1))
 
--- the places that are in use
+-- the places in use
 abbrev pub used_places : Book → List Place
 used_places book = take book.used book.places
 
--- what a book holds, place by place
+-- the places in use, by their numbers
 abbrev pub book_places : Book → List PlaceNumbers
 book_places book = map place_numbers (used_places book)

@@ -1,4 +1,4 @@
--- What is sent into a sheet, and what it comes to there.
+-- Notes as a sheet takes them: on its roll, and in its places.
 use Rattle.std.specs.Prelude.{ℕ, List, [], Some, None, Option, option_map, ◌≡◌, Result}
 use Rattle.refusals.specs.declared.refusal.Refusal.{Refusal}
 use Rattle.refusals.specs.Refusals.{Conditions, GivesOrRefuses}
@@ -10,33 +10,33 @@ use Rattle.booking.specs.Booking.{NamesLack, booking_conditions, booked_line}
 use Rattle.sheet.specs.Places.{PlaceNumbers, place_numbers}
 use Rattle.sheet.specs.declared.place.Place.{Place}
 
--- a note by its number and its revision, with its entry if it is one
+-- a note's number and revision, and its entry if it has one
 pub record RollNote : Type 0 where
   pub number : ℕ
   pub revision : ℕ
   pub entry : Option Entry
 
--- what a note that was read says to a sheet
+-- the roll's note of a note that was read
 abbrev pub roll_note_of : SentNote → RollNote
 roll_note_of s = record { number = s.number; revision = s.revision; entry = entry_of_content s.content }
 
--- what the bytes of a note say to it
+-- the roll's note of the bytes of a note
 abbrev pub roll_note : List ℕ → RollNote
 roll_note note = roll_note_of (sent_note_of note)
 
 -- in a building with a life of y years, at the factors of a map
 module _ (y : ℕ) (factor_map : FactorMap) where
-  -- what is asked of what a note says: nothing of a withdrawal
+  -- the conditions of booking; a withdrawal has none
   abbrev pub entry_conditions : Option Entry → Conditions
   entry_conditions None = []
   entry_conditions (Some e) = booking_conditions y factor_map e
 
-  -- a refusal for want of a factor names the code that was asked for, and the one that is lacking
+  -- a refusal that a factor is lacking names the code asked for and the one that is lacking
   abbrev pub NamesLackOf : Option Entry → Refusal → Type 0
   NamesLackOf None f = Unit {0}
   NamesLackOf (Some e) f = NamesLack e.head.code (factor_map e.head.code) f
 
-  -- what a note puts into its place
+  -- the place that a note takes
   abbrev pub note_place : RollNote → PlaceNumbers
   note_place n = record { number = n.number; revision = n.revision; line = option_map (booked_line y factor_map) n.entry }
 

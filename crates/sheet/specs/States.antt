@@ -1,4 +1,4 @@
--- What a sheet holds.
+-- States: what a sheet holds, and how a send changes it.
 use Rattle.std.specs.Prelude.{◌≡◌, ℕ, List, [], ◌++◌, IfOk, IfErr, Result}
 use Rattle.refusals.specs.declared.refusal.Refusal.{Refusal}
 use Rattle.refusals.specs.Refusals.{answer_number, Conditions, IsAnswerNumber, GivesOrRefuses}
@@ -14,40 +14,40 @@ use Rattle.sheet.specs.declared.place.Place.{Place}
 use Rattle.sheet.specs.Places.{PlaceNumbers, book_places, ChangesOnePlace, place_numbers}
 use Rattle.sheet.specs.Placing.{placing_conditions, places_with}
 
--- a sheet: its building, its source's map, and what its book holds
+-- a sheet's building, its source's map, and the places of its book
 pub record State : Type 0 where
   pub building : BuildingNumbers
   pub factor_map : FactorMap
   pub places : List PlaceNumbers
 
--- by its building, its book, and what its source's map is
+-- the state of a sheet, by the map of its source
 abbrev pub state_of : {S : Type 0} → (S → FactorMap) → Sheet S → State
 state_of known_of s = record { building = numbers_of s.building; factor_map = known_of s.source; places = book_places s.book }
 
--- one place of the book is changed, and nothing else of a sheet
+-- one place of the book is changed, and nothing else of the sheet
 pub record ChangesPlaceOnly {S : Type 0} (before after : Sheet S) : Type 0 where
   pub new : Place
   pub building : after.building ≡ before.building
   pub source : after.source ≡ before.source
   pub book : ChangesOnePlace new before.book after.book
 
--- a sheet that was just opened
+-- the state of a sheet that was just opened
 abbrev pub new_state : BuildingNumbers → FactorMap → State
 new_state building factor_map = record { building = building; factor_map = factor_map; places = [] }
 
--- what is asked of the content of bytes that are sent, in a building with a life of y years, at the factors of a map
+-- the conditions on the content of sent bytes, in a building with a life of y years, at the factors of a map
 abbrev pub content_conditions : ℕ → FactorMap → List ℕ → Conditions
 content_conditions y factor_map bs = reading_conditions IsSent bs ++ entry_conditions y factor_map (roll_note (first_note bs)).entry
 
--- the line that the note puts into its place which the bytes begin with
+-- the place that the first note of the bytes takes
 abbrev pub sent_place : State → List ℕ → PlaceNumbers
 sent_place s bs = note_place s.building.life s.factor_map (roll_note (first_note bs))
 
--- the sheet s with a line let in
+-- the state with a place put in
 abbrev pub state_with : State → PlaceNumbers → State
 state_with s new = record { building = s.building; factor_map = s.factor_map; places = places_with new s.places }
 
--- what is asked of a send: first of the content of the bytes, and then of their line in view of the book
+-- the conditions of a send: first on the content of the bytes, then on what the book holds
 abbrev pub send_conditions : State → List ℕ → Conditions
 send_conditions s bs = content_conditions s.building.life s.factor_map bs ++ placing_conditions s.places (sent_place s bs)
 
@@ -61,7 +61,8 @@ GivesSentPlace s bs r =
 abbrev pub NamesSentLack : State → List ℕ → Refusal → Type 0
 NamesSentLack s bs f = NamesLackOf s.building.life s.factor_map (roll_note (first_note bs)).entry f
 
--- a sheet s is sent bytes: it answers r, and is t then. By its number the answer is 0 where all that is asked holds, and the line is let in; else it is the smallest number of what fails, and nothing is changed
+-- sending bytes returns r, and changes the state from s to t. The answer's number is 0 where all conditions hold, and
+-- the place is put in; else it is the smallest number of those that fail, and nothing is changed
 pub record Sends (s : State) (bs : List ℕ) (r : Result (Unit {0}) Refusal) (t : State) : Type 0 where
   pub number : IsAnswerNumber (send_conditions s bs) (answer_number r)
   pub let_in : IfOk r (λ _. t ≡ state_with s (sent_place s bs))

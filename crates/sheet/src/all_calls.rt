@@ -1,4 +1,4 @@
-//! One sheet, from its opening to a page and its grade.
+//! All the calls of one sheet, from its opening to a page and a grade.
 ghost use Rattle.std.specs.Prelude.{reverse, map, take, IfOk};
 ghost use Rattle.domain.specs.Buildings.{numbers_of};
 ghost use Rattle.grades.specs.Grades.{grade_number};
@@ -12,7 +12,8 @@ use grades::Grade;
 use pages::{Cut, Figure};
 use refusals::Refusal;
 
-/// A page by a cut and the grade, of a sheet that was sent all of these, whatever it answered to them.
+/// Opens a sheet, sends it these bytes in their order, refused or not, and returns the total of a page by the cut, and
+/// the grade. The page is written into `figures`, or refused by `TooFewPlaces` (11), as by `Sheet::page`.
 pub fn page_and_grade<S: FactorSource + Drop, C: Cut>(
     building: Building,
     source: S,

@@ -1,4 +1,4 @@
-//! The book: a place for each number, in the order in which numbers first came.
+//! The book: a place for each number, in the order in which the numbers first came.
 ghost use Rattle.std.specs.Prelude.{◌≡◌, ◌<◌, ◌≤◌, [], ◌==◌, length, Some, None, MatchBool, ◌↔◌, IsTrue};
 ghost use Rattle.std.specs.List.{position};
 ghost use Rattle.sheet.specs.LineSums.{held_lines, sums_of_lines};
@@ -12,7 +12,7 @@ use totals::{ROWS, Totals};
 
 const PLACES: usize = 512;
 
-// The first `used` places are in use. A withdrawn number keeps its place, so that an amendment that comes late is known to be late.
+// The first `used` places are in use. A withdrawn number keeps its place, so that a late amendment is known to be late.
 #[derive(Clone, Copy, Debug, PartialEq, Eq)]
 pub(crate) struct Book {
     places: [Place; PLACES],
@@ -29,7 +29,7 @@ impl Book {
         }
     }
 
-    // As many as there are at most: a book is plain, and no bound on `used` is known of every one.
+    // The places in use. A book is a plain record, and its type puts no bound on `used`.
     fn used_places(&self) -> &[Place]
         ensures value { result.now ≡ used_places self.now }
         ensures few { length result.now ≤ PLACES }
@@ -37,7 +37,7 @@ impl Book {
         &self.places[..self.used.min(PLACES)]
     }
 
-    // What its lines come to, row by row.
+    // The totals of the lines in the book.
     pub(crate) fn totals(&self) -> Totals
         ensures { sums_of result ≡ sums_of_lines (held_lines (book_places self.now)) }
     {
@@ -54,7 +54,7 @@ impl Book {
         Totals { grams, counts }
     }
 
-    // The place of a number.
+    // The index of the place that has the number.
     fn find(&self, number: u32) -> Option<usize>
         ensures { result ≡ position (λ p. p.number == number) (used_places self.now) }
     {
@@ -63,7 +63,8 @@ impl Book {
             .position(|place| place.number == number)
     }
 
-    // Lets a line in: in place of the one under its number, if it is of a higher revision, or in the next place.
+    // Puts a place into the book: over that of the same number, where it is ahead of it, or into the next free one.
+    // Refused by `Superseded` (21), `Contradicted` (22) or `BookFull` (23), and then the book is unchanged.
     pub(crate) fn put(&mut self, new: Place) -> Result<(), Refusal>
         ensures { Puts new self.old result self.new }
     {
@@ -73,7 +74,7 @@ impl Book {
         }
     }
 
-    // In place of the line at this place, the first under its number.
+    // Puts a place over the one at this index, the first of its number.
     fn replace(&mut self, at: usize, new: Place) -> Result<(), Refusal>
         requires { position (λ p. p.number == new.number) (used_places self.now) ≡ Some at }
         ensures { Puts new self.old result self.new }
@@ -83,7 +84,7 @@ impl Book {
         Ok(())
     }
 
-    // In the next place, where none has its number.
+    // Puts a place into the next free one, where none has its number.
     fn add(&mut self, new: Place) -> Result<(), Refusal>
         requires { position (λ p. p.number == new.number) (used_places self.now) ≡ None }
         ensures { Puts new self.old result self.new }

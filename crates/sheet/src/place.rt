@@ -20,7 +20,7 @@ pub(crate) enum PlaceContent {
     Entry(Record),
 }
 
-// What is held under a number: the highest revision that was let in, and what it said.
+// What the book holds of a number: the revision that was let in last, and its content.
 #[derive(Clone, Copy, Debug, PartialEq, Eq)]
 pub(crate) struct Place {
     pub number: u32,
@@ -28,7 +28,7 @@ pub(crate) struct Place {
     pub content: PlaceContent,
 }
 
-// What stands in a place that is not in use.
+// A place that is not in use.
 pub(crate) const EMPTY: Place = Place {
     number: 0,
     revision: 0,
@@ -36,7 +36,8 @@ pub(crate) const EMPTY: Place = Place {
 };
 
 impl PlaceContent {
-    // Whether both are withdrawn, or both say the same. Their grams follow from the rest.
+    // Whether both are withdrawn, or both are entries of the same row, span, code and thousandths. Grams follow from
+    // these.
     fn equals(&self, other: &PlaceContent) -> bool
         ensures { IsTrue result ↔ EqualLines (content_line self.now) (content_line other.now) }
     {
@@ -54,7 +55,7 @@ impl PlaceContent {
 }
 
 impl Place {
-    // The place that a note takes, in a building and at the factors of a source.
+    // The place that a note takes, in a building and at the factors of a source. Refused as its booking is, by 5 to 10.
     pub(crate) fn of<S: FactorSource>(
         sent: &SentNote,
         building: &Building,
@@ -77,7 +78,7 @@ impl Place {
         })
     }
 
-    // Its line, if it has one in range.
+    // The line of the place, if it has one with grams in range.
     pub(crate) fn line(&self) -> Option<BookedLine>
         ensures { option_map line_numbers result ≡ line_in_range (content_line self.now.content) }
     {
@@ -87,7 +88,7 @@ impl Place {
         }
     }
 
-    // Whether it may take the place of an older one under the same number.
+    // Checks that it may replace an older place of its number. Refused by `Superseded` (21) or `Contradicted` (22).
     pub(crate) fn replaces(&self, old: &Place) -> Result<(), Refusal>
         ensures { MayReplace (place_numbers self.now) (place_numbers old.now) result }
     {

@@ -6,10 +6,10 @@ ghost use Rattle.sheet.specs.Places.{record_numbers};
 
 use booking::{BookedLine, Row};
 
-// The most grams that a line has.
+// The largest grams of a line.
 const MAX_GRAMS: u64 = 100_000_000_000_000;
 
-// What a line says. It keeps no range, so that places are plain records.
+// A booked line without its range, so that places are plain records.
 #[derive(Clone, Copy, Debug, PartialEq, Eq)]
 pub(crate) struct Record {
     pub row: Row,
@@ -34,7 +34,7 @@ impl From<BookedLine> for Record {
 }
 
 impl Record {
-    // The line, if it is in range. What was let in always is, but a record does not say so.
+    // The line, if its grams are in range. Those of a record that was let in are, but its type does not say so.
     pub(crate) fn line(self) -> Option<BookedLine>
         ensures { option_map line_numbers result ≡ line_in_range (Some (record_numbers self)) }
     {

@@ -1,4 +1,4 @@
-//! The sheet.
+//! The sheet and its three calls: a send, a page and a grade.
 ghost use Rattle.std.specs.Prelude.{◌≡◌, List, ◌∷◌, IfOk, IfErr};
 ghost use Rattle.refusals.specs.Refusals.{GivesOrRefuses};
 ghost use Rattle.domain.specs.declared.building.BuildingNumbers.{BuildingNumbers};
@@ -21,7 +21,7 @@ use grades::Grade;
 use pages::{Cut, Figure};
 use refusals::Refusal;
 
-/// One building's account over its whole life, at the factors of one source.
+/// The account of one building over its whole life, at the factors of one source. It allocates nothing.
 #[derive(Debug, Drop)]
 pub struct Sheet<S> {
     building: Building,
@@ -30,6 +30,7 @@ pub struct Sheet<S> {
 }
 
 impl<S: FactorSource> Sheet<S> {
+    /// Opens a sheet whose book is empty.
     pub fn open(building: Building, source: S) -> Sheet<S>
         ensures { state_of S.factor_map result ≡ new_state (numbers_of building) (S.factor_map source) }
     {
@@ -40,7 +41,9 @@ impl<S: FactorSource> Sheet<S> {
         }
     }
 
-    /// Lets in the first note of the bytes, if it is fit, and of a higher revision than what is held under its number; else refuses it, and nothing is changed.
+    /// Lets the first note of the bytes into the book, in a new place or that of its number. Refused, with nothing
+    /// changed, by `Unframed` (1), `UnwantedKind` (2), `WrongLength` (3), an entry's `UnknownRow` (5) to `TooLarge` (10),
+    /// `Superseded` (21), `Contradicted` (22) or `BookFull` (23); the smallest that applies is returned.
     pub fn send(&mut self, bytes: &[u8]) -> Result<(), Refusal>
         ensures value { Sends (state_of S.factor_map self.old) bytes.now result (state_of S.factor_map self.new) }
         ensures changed { IfOk result (λ _. ChangesPlaceOnly self.old self.new) }
@@ -51,7 +54,7 @@ impl<S: FactorSource> Sheet<S> {
         self.book.put(place)
     }
 
-    // The place that the first note of the bytes takes, whatever the book holds.
+    // The place that the first note of the bytes takes, independent of what the book holds.
     fn place_of(&self, bytes: &[u8]) -> Result<Place, Refusal>
         ensures value { GivesSentPlace (state_of S.factor_map self.now) bytes.now result }
         ensures named { IfErr result (NamesSentLack (state_of S.factor_map self.now) bytes.now) }
@@ -60,7 +63,8 @@ impl<S: FactorSource> Sheet<S> {
         Place::of(&sent, &self.building, &self.source)
     }
 
-    /// Writes a page by a cut into the first places, one for each of its headings, and answers the total. Fewer places are refused, and left as they are.
+    /// Writes a page by a cut into the first places lent, one for each heading, and returns the figure of the total.
+    /// Refused by `TooFewPlaces` (11) where there are fewer, and then no place is changed.
     pub fn page<C: Cut>(&self, cut: &C, figures: &mut [Figure]) -> Result<Figure, Refusal>
         ensures value { DrawsPage (state_of S.factor_map self.now) (C.assignment cut.now) figures.old result figures.new }
         ensures law {
@@ -70,7 +74,8 @@ impl<S: FactorSource> Sheet<S> {
         pages::write_page(self.book.totals(), cut, figures)
     }
 
-    /// The highest grade that the building meets, if it meets one.
+    /// The highest grade that the building meets by the entries in the book. Only the energy of use matters, so before
+    /// such entries are sent it may be too good.
     pub fn grade(&self) -> Grade
         ensures value { GivesGrade (state_of S.factor_map self.now) (grade_number result) }
         ensures law { KeepsLaw (state_of S.factor_map self.now) (grade_event (grade_number result)) }

@@ -1,4 +1,4 @@
-//! Pages by each cut, of 400 grams in each of the rows 1, 3 and 22: the running sum is 400, 800 and 1,200.
+//! Tests of pages by each cut, of 400 grams in each of the rows 1, 3 and 22: the running sums are 400, 800 and 1,200.
 use crate::notes::{entry, house, list};
 use booking::Row;
 use grades::Grade;
@@ -10,7 +10,7 @@ fn figure(kilograms: i64, count: u16) -> Figure {
     Figure { kilograms, count }
 }
 
-// The total and the grade of those three entries; the places are written.
+// The total and the grade of those three entries. The figures are written into the places.
 fn drawn<C: Cut>(
     cut: &C,
     figures: &mut [Figure],

@@ -1,4 +1,5 @@
-//! Notes and what they are judged by: a house of 1,000 square metres over 50 years, and one factor of 0.4 grams a thousandth of a kilogram, under two codes.
+//! The tests' notes, and what they are booked by: a house of 1,000 square metres over 50 years, and a factor of 0.4
+//! grams per thousandth of a kilogram, under two codes.
 use domain::{Building, BuildingNumbers, FactorNumbers, FactorRow};
 use factors::ProjectList;
 use refusals::Refusal;
@@ -35,7 +36,7 @@ pub(crate) fn house() -> Result<Building, Refusal> {
     })
 }
 
-// An entry of so many thousandths, at the factor.
+// An entry of the given thousandths, of code 7.
 pub(crate) fn entry(number: u16, revision: u8, row: u8, thousandths: u16) -> [u8; 28] {
     let [low, high] = number.to_le_bytes();
     let [less, more] = thousandths.to_le_bytes();

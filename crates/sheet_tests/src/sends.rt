@@ -1,4 +1,4 @@
-//! What is answered to sends, one after the other.
+//! Tests of the answers to sends, one after the other.
 use crate::notes::{entry, house, list, withdrawal};
 use pages::{ByStage, Figure};
 use refusals::Refusal;
@@ -38,7 +38,7 @@ fn a_withdrawal_ahead_of_its_amendment(rt: HostRuntime) -> Result<(), Refusal> {
     Ok(())
 }
 
-// A line that differs from the held one in its row, its span or its code alone contradicts it, though it weighs the same.
+// A line that differs from the held one in its row, its span or its code alone contradicts it, though its grams agree.
 #[test]
 fn lines_that_are_not_equal(rt: HostRuntime) -> Result<(), Refusal> {
     let mut sheet = Sheet::open(house()?, list());

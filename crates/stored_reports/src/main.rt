@@ -1,4 +1,4 @@
-//! Prints the reports of stored feeds, each under the name of its file. The names stand on standard input, one on a line.
+//! Prints the reports of stored feeds, each under the name of its file. The names come on standard input, one per line.
 #![tactic(auto)]
 
 use report::write_report;

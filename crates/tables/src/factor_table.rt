@@ -1,4 +1,4 @@
-//! The built-in factors, beside the accounting draft's table of refrigerants and the zero-carbon draft's figure for electricity.
+//! The built-in factors, to compare with the accounting draft's refrigerants and the zero-carbon draft's electricity.
 use domain::FactorUnit;
 use factors::{BuiltIn, FactorSource};
 use std::{fmt, io};
@@ -7,7 +7,7 @@ const ELECTRICITY: u32 = 1;
 
 const FIRST_REFRIGERANT: u32 = 101;
 
-// As they are named in the draft, in its order.
+// The names in the accounting draft, in its order.
 const REFRIGERANTS: [&str; 15] = [
     "R-125",
     "R-134a",
@@ -26,13 +26,13 @@ const REFRIGERANTS: [&str; 15] = [
     "R-43-10mee",
 ];
 
-// A kilogram, and a tenth of it, in tenths of a gram.
+// A kilogram and a tenth of one, in tenths of a gram.
 const KILOGRAM: u32 = 10_000;
 
 const TENTH: u32 = 1_000;
 
-// Tenths of a gram, written in kilograms with no more decimals than it takes: the draft has a warming potential in kilograms
-// of carbon dioxide for a kilogram of refrigerant.
+// Tenths of a gram, written in kilograms with no more decimals than needed. The accounting draft gives warming
+// potentials in kilograms of carbon dioxide per kilogram of refrigerant.
 #[derive(Clone, Copy, Debug, PartialEq, Eq)]
 struct Kilograms(u32);
 

@@ -1,4 +1,4 @@
-//! Whether a building is given a grade, by what the energy of its use weighs.
+//! Whether a building is given a grade, at the given emissions of the energy of its use.
 ghost use Rattle.std.specs.Prelude.{◌≡◌, ◌+◌, ◌^◌, ◌<◌, ◌↔◌, IsTrue, pos};
 ghost use Rattle.domain.specs.Buildings.{numbers_of};
 ghost use Rattle.totals.specs.Sums.{sums_of};
@@ -10,7 +10,7 @@ use domain::Building;
 use grades::{Grade, grade};
 use totals::{ROWS, Totals};
 
-// Whether it is given this grade or a higher one.
+// Whether the building is given this grade or a higher one.
 #[tactic(auto, unfolding(crate::specs::Gradings::IsGiven))]
 pub(crate) fn is_given(wanted: Grade, building: &Building, grams: u32) -> bool
     ensures { IsTrue result ↔ IsGiven (grade_number wanted) (numbers_of building.now) grams }
@@ -18,7 +18,7 @@ pub(crate) fn is_given(wanted: Grade, building: &Building, grams: u32) -> bool
     u16::from(grade(building, totals_of(grams))) >= u16::from(wanted)
 }
 
-// Whether it is given this grade or a higher one, and would not be with a gram more.
+// Whether the building is given this grade or a higher one, and would not be with one gram more.
 pub(crate) fn is_just_given(wanted: Grade, building: &Building, grams: u32) -> bool
     requires { grams + 1 < 2 ^ 32 }
     ensures { IsTrue result ↔ IsJustGiven (grade_number wanted) (numbers_of building.now) grams }
@@ -26,7 +26,7 @@ pub(crate) fn is_just_given(wanted: Grade, building: &Building, grams: u32) -> b
     is_given(wanted, building, grams) && !is_given(wanted, building, grams + 1)
 }
 
-// A sheet with nothing but so many grams of energy that is bought for use.
+// Totals of nothing but the given grams of energy bought for equipment.
 #[tactic(auto, unfolding(totals::specs::Sums::sum_in, totals::specs::Sums::numbered_rows))]
 fn totals_of(bought: u32) -> Totals
     ensures { energy_emissions (sums_of result) ≡ pos bought }

@@ -1,4 +1,4 @@
-//! The limits of a grade, beside the zero-carbon draft's tables of them.
+//! The limits of a grade, to compare with the zero-carbon draft's tables.
 use crate::given::is_given;
 use crate::names::{OTHERS, REGIONS};
 use crate::search::{LIMIT_GRAMS, largest_limit};
@@ -7,7 +7,7 @@ use domain::{Building, BuildingType};
 use grades::Grade;
 use std::io;
 
-// A row for each region, a cell for each sun class.
+// A row for each region, and a cell for each sun class.
 pub(crate) fn print_homes(rt: &impl Print, grade: Grade, name: &str) -> io::Result<()> {
     println!(rt; "\n{name} homes: kilograms per square metre and year, by region and sun class")?;
     print!(rt; "{:24}", "")?;
@@ -26,7 +26,7 @@ pub(crate) fn print_homes(rt: &impl Print, grade: Grade, name: &str) -> io::Resu
     Ok(())
 }
 
-// A row for each region and sun class, a cell for each type.
+// A row for each region and sun class, and a cell for each type.
 pub(crate) fn print_others(rt: &impl Print, grade: Grade, name: &str) -> io::Result<()> {
     println!(rt;
         "\n{name} buildings of other types: kilograms per square metre and year, by region and sun class"
@@ -49,7 +49,8 @@ pub(crate) fn print_others(rt: &impl Print, grade: Grade, name: &str) -> io::Res
     Ok(())
 }
 
-// A limit in kilograms, or a stroke where there is none. A mark behind it would say that the grade is given a gram beyond it too.
+// A limit in kilograms, or a stroke where there is none. A `!` behind it would mean that the grade is given one gram
+// beyond it too.
 fn print_limit(rt: &impl Print, grade: Grade, building: &Building) -> io::Result<()> {
     let Some(limit) = largest_limit(grade, building) else {
         return print!(rt; "{:>13}", "-");

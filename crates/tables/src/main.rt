@@ -1,5 +1,5 @@
-//! Prints what the calls answer for each figure of the drafts' tables. The output that it is compared with was set down from
-//! the printed tables, and not from the code.
+//! Prints what the calls return for each figure in the drafts' tables. The output that it is compared with was written
+//! from the printed tables, and not from the code.
 #![tactic(auto)]
 
 mod factor_table;

@@ -1,4 +1,4 @@
-//! What the rows and columns of the tables are called.
+//! The names of the tables' rows and columns.
 use domain::{BuildingType, Region};
 use grades::Grade;
 
@@ -15,7 +15,7 @@ pub(crate) const REGIONS: [(Region, &str); 5] = [
     (Region::Mild, "mild"),
 ];
 
-// All types of buildings but homes, which have tables of their own.
+// All types of building but homes, which have tables of their own.
 pub(crate) const OTHERS: [(BuildingType, &str); 7] = [
     (BuildingType::SmallOffice, "small office"),
     (BuildingType::LargeOffice, "large office"),

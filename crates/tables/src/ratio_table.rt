@@ -1,4 +1,4 @@
-//! The ratios of each grade, beside the zero-carbon draft's rows of them.
+//! The ratios of each grade, to compare with the zero-carbon draft's.
 use crate::names::{GRADES, REGIONS};
 use crate::search::{REFERENCE, largest_share};
 use crate::site::square_metre;
@@ -6,10 +6,10 @@ use domain::{Building, BuildingType};
 use grades::Grade;
 use std::io;
 
-// One sun class is as good as another, as a ratio hangs on the region alone.
+// Any sun class, since a ratio depends on the region alone.
 const SUN: u16 = 1;
 
-// A row for each region, a cell for each grade. A school is asked about, as it has the lowest limits.
+// A row for each region, and a cell for each grade. The building is a school, the type with the lowest limits.
 pub(crate) fn print_ratios(rt: &impl Print) -> io::Result<()> {
     println!(rt; "\nratios: per cent below the reference, by region")?;
     print!(rt; "{:24}", "")?;

@@ -1,4 +1,4 @@
-//! The buildings that are asked about.
+//! The buildings that are graded to find the tables' figures.
 ghost use Rattle.std.specs.Prelude.{◌≡◌};
 ghost use Rattle.domain.specs.Numbers.{region_number, type_number};
 ghost use Rattle.domain.specs.Ranges.{IsSunClass, IsReference};
@@ -15,7 +15,7 @@ const LIFE: u16 = 1;
 // The reference of a building that has none.
 pub(crate) const NO_REFERENCE: u16 = 0;
 
-// A square metre for a year: a tenth of a kilogram per square metre and year comes to 100 grams there.
+// A building of one square metre and one year: a tenth of a kilogram per square metre and year is 100 grams for it.
 pub(crate) fn square_metre(
     region: Region,
     sun: u16,

@@ -1,4 +1,4 @@
--- What chosen rows come to: of two choices together, of one row alone, and at most.
+-- Sums over chosen rows: of two choices together, of one row alone, and their bounds.
 use Rattle.std.proofs.Common.{◌≡◌, ℕ, zero, suc, ◌+◌, ◌<◌, ◌≤◌, Bool, true, false, if◌then◌else◌, List, [], ◌∷◌, length, get_or, sum_by, pos, ◌+ℤ◌, unsigned_abs, nat_eq, refl, sym, ap, ◌∙◌, arith}
 use Rattle.std.specs.List.{All}
 use Rattle.std.proofs.lemmas.Bool.Decides.{nat_tests}
@@ -21,7 +21,7 @@ module _ {X : Type 0} {none : X} {plus : X → X → X} (laws : Adds none plus) 
   part_split {a = false} {b = false} {c = false} x h = sym (laws.with_none none)
   part_split {c} x h = absurd (grind (arith, h.one))
 
-  -- where each row is chosen by one of two choices, the whole comes to what the two come to together
+  -- where one choice is split in two, the sum is that of the two parts
   pub split : {In : ℕ → Type 0} {a b c : ℕ → Bool} (vs : List (ℕ × X)) → All (λ v. In v.0) vs → ((row : ℕ) → In row → Parts (a row) (b row) (c row)) → sum_in none plus c vs ≡ plus (sum_in none plus a vs) (sum_in none plus b vs)
   unfolding sum_in
   split [] rows parts = sym (laws.with_none none)
@@ -37,7 +37,7 @@ module _ {X : Type 0} {none : X} {plus : X → X → X} (laws : Adds none plus) 
   none_after row k [] l = refl
   none_after row k (x ∷ xs) l = let past : nat_eq k row ≡ false = grind (arith, nat_tests) in rw past (none_after row (k + 1) xs (omega arith))
 
-  -- one row alone
+  -- the sum of one row is its value
   pub one_alone : (row k : ℕ) (xs : List X) (i : ℕ) (d : X) → k + i ≡ row → i < length xs → sum_in none plus (λ r. nat_eq r row) (numbered_rows k xs) ≡ get_or xs i d
   unfolding sum_in numbered_rows
   one_alone row k [] i d e l = absurd (omega arith)
@@ -48,12 +48,12 @@ module _ {X : Type 0} {none : X} {plus : X → X → X} (laws : Adds none plus) 
       let past : nat_eq k row ≡ false = grind (arith, nat_tests) in
       rw past (one_alone row (k + 1) xs i d (omega arith) (omega arith))
 
--- a size of numbers: of none it is 0, and of a sum at most that of its terms together
+-- a size of values: 0 for none, and for a sum at most the sum of the sizes
 record Sized {X : Type 0} (none : X) (plus : X → X → X) (size : X → ℕ) : Type 0 where
   of_none : size none ≡ 0
   of_sum : (a b : X) → size (plus a b) ≤ size a + size b
 
--- what any choice of rows comes to is no larger than all sizes together
+-- the size of a sum over chosen rows is at most the sum of all sizes
 most : {X : Type 0} {none : X} {plus : X → X → X} {size : X → ℕ} → Sized none plus size → (choice : ℕ → Bool) (k : ℕ) (xs : List X) → size (sum_in none plus choice (numbered_rows k xs)) ≤ sum_by size xs
 unfolding sum_in numbered_rows
 most sized choice k [] = omega (arith, sized.of_none)
@@ -64,7 +64,7 @@ most {none} {plus} {size} sized choice k (x ∷ xs) =
     let all = sum_by-cons size x xs in
     elim (choice k) as (λ b. size (if b then plus x s else s) ≤ sum_by size (x ∷ xs)) [ true ↦ omega arith | false ↦ omega arith ]
 
--- so no choice of rows is beyond the bounds of totals
+-- so no choice of rows exceeds the bounds of totals
 pub grams_within : (t : Totals) (choice : ℕ → Bool) → IsWithinTotals ((sums_of t).grams choice)
 grams_within t choice =
     let sized : Sized (pos 0) ◌+ℤ◌ unsigned_abs = record { of_none = refl; of_sum = size_of_sum } in

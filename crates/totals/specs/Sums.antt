@@ -1,8 +1,8 @@
--- What rows come to together.
+-- The sums of totals over any choice of rows.
 use Rattle.std.specs.Prelude.{ℕ, ◌+◌, Bool, if◌then◌else◌, List, [], ◌∷◌, ℤ, pos, ◌+ℤ◌}
 use Rattle.totals.specs.declared.totals.Totals.{Totals}
 
--- the sum of what stands in chosen rows, of values each with the number of its row
+-- the sum over chosen rows, of values that each have the number of their row
 module _ {X : Type 0} (none : X) (plus : X → X → X) (choice : ℕ → Bool) where
   unfoldable pub sum_in : List (ℕ × X) → X
   sum_in [] = none
@@ -14,12 +14,12 @@ grams_in choice = sum_in (pos 0) ◌+ℤ◌ choice
 abbrev pub count_in : (ℕ → Bool) → List (ℕ × ℕ) → ℕ
 count_in choice = sum_in 0 ◌+◌ choice
 
--- values in the order of their rows, the first in row k
+-- values with the numbers of their rows, the first of them in row k
 unfoldable pub numbered_rows : {X : Type 0} → ℕ → List X → List (ℕ × X)
 numbered_rows k [] = []
 numbered_rows k (x ∷ xs) = (k, x) ∷ numbered_rows (k + 1) xs
 
--- what any choice of rows comes to: its grams, and of how many entries they are
+-- the sums over any choice of rows: grams, and the number of entries that they are of
 pub record Sums : Type 0 where
   pub grams : (ℕ → Bool) → ℤ
   pub counts : (ℕ → Bool) → ℕ

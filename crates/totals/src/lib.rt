@@ -1,4 +1,4 @@
-//! What the entries of a sheet come to, row by row.
+//! The totals of a sheet: the grams of each of its 22 rows, and the number of entries that they are of.
 #![tactic(auto)]
 
 mod totals;

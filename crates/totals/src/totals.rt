@@ -1,15 +1,18 @@
-//! The one value that pages and grades are drawn from.
+//! The value that pages and grades are drawn from.
 ghost use Rattle.std.specs.Prelude.{◌≤◌, sum_by, sum, unsigned_abs};
 ghost use Rattle.totals.specs.Sizes.{max_size, max_count};
 
-/// How many rows a sheet has.
+/// The number of rows of a sheet.
 pub const ROWS: usize = 22;
 
-/// Signed grams and how many entries they are of, the first row first. No such value is beyond what 512 of the heaviest entries come to.
-/// Two arrays beside one another, since pages and grades go through the grams as one list of numbers.
+/// The grams and the number of entries of each row, in the order of the rows. No value exceeds the bounds of 512
+/// entries of the largest grams. Grams and counts are two arrays, since each is summed as one list.
 #[derive(Clone, Copy, Debug, PartialEq, Eq)]
 pub struct Totals {
+    /// Grams of carbon dioxide equivalent, below zero in a row that is subtracted. Their sizes sum to at most
+    /// 51,200,000,000,000,000.
     pub grams: [i64; ROWS],
+    /// The number of entries that the grams are of. The counts sum to at most 512.
     pub counts: [u16; ROWS],
     ghost grams_within: { sum_by unsigned_abs grams ≤ max_size },
     ghost counts_within: { sum counts ≤ max_count },
