@@ -19,10 +19,8 @@ pub(crate) fn send_all<S: FactorSource>(
     sheet: &mut Sheet<S>,
     notes: &[u8],
 ) -> Result<String, AllocError>
-    ensures {
-        IfOk result (λ text. SendsAllFrom (state_of S.factor_map sheet.old) notes.now
-            (state_of S.factor_map sheet.new) (string_bytes text))
-    }
+    ensures { IfOk result (λ text. SendsAllFrom (state_of S.factor_map sheet.old) notes.now
+        (state_of S.factor_map sheet.new) (string_bytes text)) }
 {
     let mut text = String::new(heap);
     let mut reader = Reader::new(notes);
@@ -45,10 +43,8 @@ fn send<S: FactorSource>(
     sheet: &mut Sheet<S>,
     part: &Part,
 ) -> Result<String, AllocError>
-    ensures {
-        IfOk result (λ text. WritesSend (state_of S.factor_map sheet.old) part.now.place part.now.bytes.now
-            (state_of S.factor_map sheet.new) (string_bytes text))
-    }
+    ensures { IfOk result (λ text. WritesSend (state_of S.factor_map sheet.old) part.now.place part.now.bytes.now
+        (state_of S.factor_map sheet.new) (string_bytes text)) }
 {
     match sheet.send(part.bytes) {
         Ok(()) => Ok(String::new(heap)),

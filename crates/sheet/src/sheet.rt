@@ -67,9 +67,7 @@ impl<S: FactorSource> Sheet<S> {
     /// Refused by `TooFewPlaces` (11) where there are fewer, and then no place is changed.
     pub fn page<C: Cut>(&self, cut: &C, figures: &mut [Figure]) -> Result<Figure, Refusal>
         ensures value { DrawsPage (state_of S.factor_map self.now) (C.assignment cut.now) figures.old result figures.new }
-        ensures law {
-            KeepsLaw (state_of S.factor_map self.now) (page_event (C.assignment cut.now) figures.old result figures.new)
-        }
+        ensures law { KeepsLaw (state_of S.factor_map self.now) (page_event (C.assignment cut.now) figures.old result figures.new) }
     {
         pages::write_page(self.book.totals(), cut, figures)
     }
