@@ -4,7 +4,7 @@ use Rattle.exact.specs.Rounding.{rounded_quotient, IsWithinHalf}
 use Rattle.refusals.specs.declared.lack_codes.LackCodes.{LackCodes}
 use Rattle.refusals.specs.declared.refusal.Refusal.{Refusal}
 use Rattle.refusals.specs.declared.refusal.Refusal.TheVariants.{FactorLacking, UnfitUnit, TooLarge}
-use Rattle.refusals.specs.Refusals.{refusal_number, lack_number, AllHold, OneFails, IsLeastFailing}
+use Rattle.refusals.specs.Refusals.{refusal_number, lack_number, AllHold, SomeFails, IsLeastFailing}
 use Rattle.refusals.proofs.Deciding.{least_stop, least_on, least_failing, both_hold, number_absent}
 use Rattle.domain.specs.declared.entry.Entry.{Entry}
 use Rattle.domain.specs.declared.factor.FactorNumbers.{FactorNumbers}
@@ -22,7 +22,7 @@ module _ (y : ℕ) (factor_map : FactorMap) (e : Entry) where
   unfolding booking_conditions
   itself_refused f least = (
     least_stop (own_conditions e) (factor_conditions y factor_map e) (refusal_number f) refl least,
-    λ lack. absurd (number_absent (own_conditions e) lack_number refl (subst (OneFails (own_conditions e)) lack least.0)),
+    λ lack. absurd (number_absent (own_conditions e) lack_number refl (subst (SomeFails (own_conditions e)) lack least.0)),
   )
 
   -- where the source lacks the factor, the lack is the result

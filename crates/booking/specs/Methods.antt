@@ -7,6 +7,8 @@ use Rattle.refusals.specs.declared.refusal.Refusal.{Refusal}
 use Rattle.refusals.specs.declared.refusal.Refusal.TheVariants.{UnfitSpan}
 use Rattle.refusals.specs.Refusals.{GivesOrRefusesBy}
 use Rattle.booking.specs.declared.method.Terms.{Terms}
+use Rattle.domain.specs.Numbers.{unit_number}
+use Rattle.domain.specs.declared.units.FactorUnit.TheVariants.{TonneKilometre, Kilogram}
 
 -- the span is up to 10,000 kilometres, 1 to 100 years, or 0
 abbrev pub SpanFits : CalculationMethod → ℕ → Type 0
@@ -32,9 +34,9 @@ divisor k s = 1
 
 -- tonne-kilometres (5) fit distances and nothing else, and kilograms (4) alone fit leakage
 abbrev pub unit_fits : CalculationMethod → ℕ → Bool
-unit_fits DistanceBased u = u == 5
-unit_fits Leakage u = u == 4
-unit_fits k u = not (u == 5)
+unit_fits DistanceBased u = u == unit_number TonneKilometre
+unit_fits Leakage u = u == unit_number Kilogram
+unit_fits k u = not (u == unit_number TonneKilometre)
 
 -- r is what an entry with the span s is multiplied and divided by, in a building with a life of y years, if the span fits
 abbrev pub GivesTerms : CalculationMethod → ℕ → ℕ → Result Terms Refusal → Type 0

@@ -2,6 +2,8 @@
 use Rattle.std.specs.Prelude.{ℕ, ◌-◌, ◌*◌, if◌then◌else◌, List, [], ◌∷◌, length, ◌==◌, nat_lt, slice_index}
 use Rattle.domain.specs.declared.factor.FactorNumbers.{FactorNumbers}
 use Rattle.factors.specs.Maps.{FactorMap, has, lacks}
+use Rattle.domain.specs.Numbers.{unit_number}
+use Rattle.domain.specs.declared.units.FactorUnit.TheVariants.{KilowattHour, Kilogram}
 
 -- the global warming potentials of the refrigerants, as multiples of that of carbon dioxide
 abbrev pub warming_potentials : List ℕ
@@ -15,7 +17,7 @@ factor_per amount unit = record { amount = amount; unit = unit }
 -- grid electricity (1) per kilowatt-hour (3), and from 101 on the refrigerants per kilogram (4)
 abbrev pub built_in_map : FactorMap
 built_in_map c =
-    if c == 1 then has (factor_per 5000 3)
+    if c == 1 then has (factor_per 5000 (unit_number KilowattHour))
     else (if nat_lt c 101 then lacks c
-    else (if nat_lt (c - 101) (length warming_potentials) then has (factor_per (slice_index warming_potentials (c - 101) * 10000) 4)
+    else (if nat_lt (c - 101) (length warming_potentials) then has (factor_per (slice_index warming_potentials (c - 101) * 10000) (unit_number Kilogram))
     else lacks c))

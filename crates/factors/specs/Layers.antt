@@ -6,6 +6,8 @@ use Rattle.domain.specs.declared.factor.FactorNumbers.{FactorNumbers}
 use Rattle.domain.specs.declared.factor.FactorRow.{FactorRow}
 use Rattle.factors.specs.Lists.{list_map}
 use Rattle.factors.specs.Maps.{FactorAnswer, FactorMap, has, lacks}
+use Rattle.domain.specs.Numbers.{unit_number}
+use Rattle.domain.specs.declared.units.FactorUnit.TheVariants.{Tonne}
 
 -- a if it is a factor, otherwise b if that is a factor, and otherwise the lack of a
 abbrev pub or_else : FactorAnswer → FactorAnswer → FactorAnswer
@@ -24,7 +26,7 @@ half_factor f = record { amount = rounded_quotient f.amount 2; unit = f.unit }
 
 -- half of a factor per tonne; where the factor is per anything else, the code c is lacking
 abbrev pub recycled_answer : ℕ → FactorAnswer → FactorAnswer
-recycled_answer c (has f) = if f.unit == 1 then has (half_factor f) else lacks c
+recycled_answer c (has f) = if f.unit == unit_number Tonne then has (half_factor f) else lacks c
 recycled_answer c (lacks l) = lacks l
 
 -- recycled material has the code of the new material plus 1,000,000, and half its amount

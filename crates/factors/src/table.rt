@@ -13,7 +13,7 @@ const ELECTRICITY_AMOUNT: u32 = 5_000;
 const FIRST_REFRIGERANT: u32 = 101;
 
 // A kilogram of carbon dioxide, in tenths of a gram.
-const KILOGRAM: u32 = 10_000;
+const TENTHS_OF_A_GRAM_PER_KILOGRAM: u32 = 10_000;
 
 // The global warming potentials of the refrigerants, as multiples of that of carbon dioxide, after the accounting
 // draft. Their codes count up from 101.
@@ -55,7 +55,7 @@ impl FactorSource for BuiltIn {
             .and_then(|i| WARMING_POTENTIALS.get(i as usize))
             .ok_or(Lack { code })?;
         Ok(Factor {
-            amount: *warming * KILOGRAM,
+            amount: *warming * TENTHS_OF_A_GRAM_PER_KILOGRAM,
             unit: FactorUnit::Kilogram,
         })
     }

@@ -4,9 +4,10 @@ use Rattle.std.specs.List.{flat_map}
 use Rattle.feed.specs.declared.reader.Part.{Part}
 use Rattle.feed.specs.declared.reader.Reader.{Reader}
 use Rattle.feed.specs.Frames.{IsFramed, IsOneNote, first_note}
-use Rattle.feed.specs.FactorRows.{StartsWithRow}
+use Rattle.feed.specs.FactorRows.{StartsWithFactorRow}
 use Rattle.refusals.specs.declared.refusal.Refusal.{Refusal}
 use Rattle.refusals.specs.Refusals.{refusal_number}
+use Rattle.refusals.specs.declared.refusal.Refusal.TheVariants.{Unframed}
 
 -- the result of a call: the next note, none where the feed has ended, or why no note can be read from what is left
 abbrev pub ReaderAnswer : Type 0
@@ -51,7 +52,7 @@ pub record Stays (r t : Reader) : Type 0 where
 abbrev pub IsSpent : ReaderAnswer → List ℕ → Type 0
 IsSpent (Ok (Some p)) rest = ⊥
 IsSpent (Ok None) rest = rest ≡ []
-IsSpent (Err f) rest = (0 < length rest) × (IsFramed rest → ⊥) × (refusal_number f ≡ 1)
+IsSpent (Err f) rest = (0 < length rest) × (IsFramed rest → ⊥) × (refusal_number f ≡ refusal_number Unframed)
 
 -- a call of `next` of the reader r has this result, and leaves it as t
 abbrev pub AnswersNext : Reader → ReaderAnswer → Reader → Type 0
@@ -65,9 +66,9 @@ HandsOutNote r (Some p) t = HandsOut r p t
 HandsOutNote r None t = Stays r t × (IsFramed (rest_of t) → ⊥)
 
 -- the reader r hands out the next note, if it is of the kind of factor rows, and is t afterwards
-abbrev pub HandsOutRow : Reader → Option Part → Reader → Type 0
-HandsOutRow r (Some p) t = StartsWithRow (rest_of r) × HandsOut r p t
-HandsOutRow r None t = (StartsWithRow (rest_of r) → ⊥) × (t ≡ r)
+abbrev pub HandsOutFactorRow : Reader → Option Part → Reader → Type 0
+HandsOutFactorRow r (Some p) t = StartsWithFactorRow (rest_of r) × HandsOut r p t
+HandsOutFactorRow r None t = (StartsWithFactorRow (rest_of r) → ⊥) × (t ≡ r)
 
 -- the calls of one reader of the feed since it was made: their results, the latest first, and the reader after them
 pub data ReaderHistory (feed : List ℕ) : List ReaderAnswer → Reader → Type 0 where

@@ -10,12 +10,12 @@ use Rattle.feed.specs.declared.reader.Reader.{Reader}
 use Rattle.feed.specs.Feeds.{ReaderAnswer, rest_of, ReaderHistory}
 use Rattle.feed.specs.Frames.{rest_after_first}
 use Rattle.feed.specs.Readings.{ReadsBuilding}
-use Rattle.feed.specs.FactorRows.{StartsWithRows, ReadsEachRow}
+use Rattle.feed.specs.FactorRows.{StartsWithFactorRows, ReadsEachRow}
 
 -- the first note of the feed is the building b, these notes of factor rows come after it, and this is left after them
 pub record OpensWith (feed : List ℕ) (b : Building) (notes : List (List ℕ)) (left : List ℕ) : Type 0 where
   pub building : ReadsBuilding feed (Ok b)
-  pub rows : StartsWithRows (rest_after_first feed) notes left
+  pub rows : StartsWithFactorRows (rest_after_first feed) notes left
 
 -- the feed opens with the building b; reading the factor rows after it gives these results; and rest is a reader of the
 -- feed that has handed out exactly the building and these rows

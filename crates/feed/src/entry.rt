@@ -63,7 +63,7 @@ impl SentQuantity {
 }
 
 // The fields of an entry before its quantity.
-pub(crate) fn head(note: &[u8]) -> EntryHead
+pub(crate) fn entry_head(note: &[u8]) -> EntryHead
     requires { quantity_offset ≤ length note.now }
     ensures { result ≡ entry_head_of_note note.now }
 {

@@ -5,7 +5,7 @@ ghost use Rattle.feed.specs.Frames.{IsFramed, first_note};
 ghost use Rattle.feed.specs.Kinds.{note_length};
 ghost use Rattle.feed.specs.declared.kind.Kind.TheVariants.{Factor as FactorNote};
 ghost use Rattle.feed.specs.Readings.{ReadsFactorRow};
-ghost use Rattle.feed.specs.FactorRows.{StartsWithRow};
+ghost use Rattle.feed.specs.FactorRows.{StartsWithFactorRow};
 
 use crate::content::{Content, checked_length, read};
 use crate::frame::Head;
@@ -16,7 +16,7 @@ use refusals::Refusal;
 
 /// Reads a factor row, whose numbers are in range, from the first note of the bytes. What comes after that note plays
 /// no part. Refused by `Unframed` (1), `UnwantedKind` (2), `WrongLength` (3) or `OutOfRange` (4).
-pub fn read_row(bytes: &[u8]) -> Result<FactorRow, Refusal>
+pub fn read_factor_row(bytes: &[u8]) -> Result<FactorRow, Refusal>
     ensures value { ReadsFactorRow bytes.now result }
     ensures alone { IsFramed bytes.now → ReadsFactorRow (first_note bytes.now) result }
 {
@@ -24,8 +24,8 @@ pub fn read_row(bytes: &[u8]) -> Result<FactorRow, Refusal>
 }
 
 // Whether the bytes begin with a note of the kind of factor rows.
-pub(crate) fn row_is_next(bytes: &[u8]) -> bool
-    ensures { IsTrue result ↔ StartsWithRow bytes.now }
+pub(crate) fn factor_row_is_next(bytes: &[u8]) -> bool
+    ensures { IsTrue result ↔ StartsWithFactorRow bytes.now }
 {
     Head::read(bytes).is_ok_and(|head| head.kind == u16::from(Kind::Factor))
 }

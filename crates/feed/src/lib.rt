@@ -17,9 +17,9 @@ mod sent_note;
 
 pub use building::read_building;
 pub use entry::{SentEntry, SentQuantity};
-pub use factor::read_row;
+pub use factor::read_factor_row;
 pub use frame::{Head, first_note};
-pub use input::{MAX_BYTES, read_feed};
+pub use input::{MAX_FEED_BYTES, read_feed};
 pub use kind::Kind;
 pub use note::Note;
 pub use opening::{Opening, OpeningError};

@@ -4,7 +4,7 @@ ghost use Rattle.feed.specs.Openings.{IsOutOfMemory, ReadsOpening};
 ghost use Rattle.feed.specs.declared.opening.OpeningError.TheVariants.{Refused};
 
 use crate::building::read_building;
-use crate::factor::read_row;
+use crate::factor::read_factor_row;
 use crate::reader::Reader;
 use domain::{Building, FactorRow};
 use refusals::Refusal;
@@ -50,16 +50,16 @@ impl<'a> Opening<'a> {
     /// Reads the building from the first note of the feed, and then all factor rows up to the first note of another
     /// kind. The building is refused as `read_building` refuses it. A refused row is no error here: the caller decides
     /// what follows from it.
-    pub fn read(heap: Global, feed: &'a [u8]) -> Result<Opening<'a>, OpeningError>
+    pub fn read(alloc: Global, feed: &'a [u8]) -> Result<Opening<'a>, OpeningError>
         ensures { ReadsOpening feed.now result }
     {
         let building = read_building(feed)?;
         // The first note is the building.
         let mut rest = Reader::new(feed);
         rest.next()?;
-        let mut rows = Vec::new(heap);
-        while let Some(note) = rest.next_row() {
-            rows.push(read_row(note.bytes))?;
+        let mut rows = Vec::new(alloc);
+        while let Some(note) = rest.next_factor_row() {
+            rows.push(read_factor_row(note.bytes))?;
         }
         Ok(Opening {
             building,

@@ -1,7 +1,7 @@
 //! A reader that hands out the notes of a feed one after the other.
 ghost use Rattle.std.specs.Prelude.{ℕ, ◌≤◌, List, ◌∷◌, length};
 
-use crate::factor::row_is_next;
+use crate::factor::factor_row_is_next;
 use crate::frame::first_note;
 use refusals::Refusal;
 
@@ -30,7 +30,7 @@ pub struct Reader<'a> {
 }
 
 impl<'a> Reader<'a> {
-    ghost use Rattle.feed.specs.Feeds.{IsNewReader, AnswersNext, HandsOutNote, HandsOutRow, KeepsReaderLaw, IsRest};
+    ghost use Rattle.feed.specs.Feeds.{IsNewReader, AnswersNext, HandsOutNote, HandsOutFactorRow, KeepsReaderLaw, IsRest};
 
     /// Makes a reader at the start of the feed.
     pub fn new(feed: &'a [u8]) -> Reader<'a>
@@ -69,10 +69,10 @@ impl<'a> Reader<'a> {
 
     /// Hands out the next note if it is of the kind of factor rows. Otherwise the result is `None`, and the reader is
     /// unchanged.
-    pub fn next_row(&mut self) -> Option<Part<'a>>
-        ensures { HandsOutRow self.old result self.new }
+    pub fn next_factor_row(&mut self) -> Option<Part<'a>>
+        ensures { HandsOutFactorRow self.old result self.new }
     {
-        if row_is_next(self.rest().bytes) {
+        if factor_row_is_next(self.rest().bytes) {
             self.next().ok().flatten()
         } else {
             None

@@ -6,7 +6,7 @@ ghost use Rattle.feed.specs.Readings.{Reads};
 ghost use Rattle.feed.specs.SentNotes.{IsSent, SaysSentNote, content_kind, sent_note_of};
 
 use crate::content::{Content, checked_length, read};
-use crate::entry::{SentEntry, SentQuantity, head};
+use crate::entry::{SentEntry, SentQuantity, entry_head};
 use crate::frame::FIELDS;
 use crate::kind::Kind;
 use crate::little_endian::number_at;
@@ -68,7 +68,7 @@ impl SentNote {
     {
         let content = match SentQuantity::of_note(kind, note) {
             Some(quantity) => SentContent::Entry(SentEntry {
-                head: head(note),
+                head: entry_head(note),
                 quantity,
             }),
             None => SentContent::Withdrawal,

@@ -1,6 +1,6 @@
 //! Tests of each refusal of a building, a factor row and a note, and of each field at its range's ends and one beyond.
 use domain::{Factor, FactorNumbers};
-use feed::{Head, Note, read_building, read_row};
+use feed::{Head, Note, read_building, read_factor_row};
 use refusals::Refusal;
 use std::test::Fail;
 
@@ -83,7 +83,7 @@ fn a_factor_row(rt: HostRuntime) {
     for (at, width, value, expected) in cases {
         let mut note = FACTOR;
         put(&mut note, at, width, value);
-        assert_eq!(rt; refused(read_row(&note)), expected, "{value}");
+        assert_eq!(rt; refused(read_factor_row(&note)), expected, "{value}");
     }
 }
 
@@ -92,10 +92,10 @@ fn a_factor_row(rt: HostRuntime) {
 fn the_smallest_number(rt: HostRuntime) {
     let short = b"\x08\0\x01\0\0\0\0\0";
     assert_eq!(rt; refused(read_building(short)), Some(3));
-    assert_eq!(rt; refused(read_row(short)), Some(2));
+    assert_eq!(rt; refused(read_factor_row(short)), Some(2));
     assert_eq!(rt; refused(Note::read(short)), Some(3));
     assert_eq!(rt; refused(read_building(b"")), Some(1));
-    assert_eq!(rt; refused(read_row(b"")), Some(1));
+    assert_eq!(rt; refused(read_factor_row(b"")), Some(1));
     assert_eq!(rt; refused(Note::read(b"")), Some(1));
     assert_eq!(rt; refused(Head::read(b"\x12\0\x01")), Some(1));
     assert_eq!(rt; refused(Head::read(b"\x03\0\x01\0")), Some(1));
@@ -144,7 +144,7 @@ fn trailing_bytes(rt: HostRuntime) -> Result<(), Fail> {
     assert_eq!(rt; u16::from(building.building_type), 1);
     assert_eq!(rt; building.reference, 9);
     let bytes = b"\x0E\0\x02\0\x07\0\0\0\xC0\xCF\x6A\0\x01\0\0";
-    let row = read_row(bytes)?;
+    let row = read_factor_row(bytes)?;
     assert_eq!(rt; row.code, 7);
     assert_eq!(rt; row.factor.amount, 7_000_000);
     assert_eq!(rt; row.factor.unit, 1);

@@ -1,5 +1,5 @@
 //! Tests of the largest feeds, for which no clause says that memory suffices, and of reading and writing that fail.
-use feed::MAX_BYTES;
+use feed::MAX_FEED_BYTES;
 use listing::write_listing;
 use pages::Figure;
 use report::{page_lines, write_report};
@@ -20,19 +20,19 @@ const FACTOR: [u8; 14] = [14, 0, 2, 0, 7, 0, 0, 0, 0xC0, 0xCF, 0x6A, 0, 1, 0];
 const WITHDRAWAL: [u8; 12] = [12, 0, 5, 0, 1, 0, 0, 0, 1, 0, 0, 0];
 
 // A feed of 65,536 bytes: a building, `count` copies of a note, and zeros, which frame no note.
-fn full_feed(heap: Global, note: &[u8], count: usize) -> Result<Vec<u8>, AllocError> {
-    let mut feed = Vec::new(heap);
+fn full_feed(alloc: Global, note: &[u8], count: usize) -> Result<Vec<u8>, AllocError> {
+    let mut feed = Vec::new(alloc);
     feed.extend_from_slice(&BUILDING)?;
     for _ in 0..count {
         feed.extend_from_slice(note)?;
     }
-    feed.resize(MAX_BYTES, 0)?;
+    feed.resize(MAX_FEED_BYTES, 0)?;
     Ok(feed)
 }
 
 // The listing of such a feed. Its notes have the given length and words.
-fn listing_lines(heap: Global, count: usize, length: usize, words: &str) -> io::Result<Vec<u8>> {
-    let mut text = Vec::new(heap);
+fn listing_lines(alloc: Global, count: usize, length: usize, words: &str) -> io::Result<Vec<u8>> {
+    let mut text = Vec::new(alloc);
     text.write_all(b"1 at=0 building area=10000 life=50 region=2 sun=2 type=1 reference=0\n")?;
     let mut place = 2usize;
     let mut start = 18usize;
@@ -41,15 +41,15 @@ fn listing_lines(heap: Global, count: usize, length: usize, words: &str) -> io::
         place = place.wrapping_add(1);
         start = start.wrapping_add(length);
     }
-    let left = MAX_BYTES.wrapping_sub(start);
+    let left = MAX_FEED_BYTES.wrapping_sub(start);
     writeln!(text, "{place} at={start} unframed left={left} refused 1")?;
     Ok(text)
 }
 
 // The report of such a feed. The sends from `first` on are refused by the given number, and the zeros by 1, so that
 // nothing counts.
-fn report_lines(heap: Global, first: usize, count: usize, number: u8) -> io::Result<Vec<u8>> {
-    let mut text = Vec::new(heap);
+fn report_lines(alloc: Global, first: usize, count: usize, number: u8) -> io::Result<Vec<u8>> {
+    let mut text = Vec::new(alloc);
     for place in first..=count {
         writeln!(text, "denied {place} {number}")?;
     }
@@ -59,36 +59,36 @@ fn report_lines(heap: Global, first: usize, count: usize, number: u8) -> io::Res
     Ok(text)
 }
 
-fn listed(heap: Global, feed: &[u8]) -> io::Result<Vec<u8>> {
-    let mut text = Vec::new(heap);
-    write_listing(heap, feed, &mut text)?;
+fn listed(alloc: Global, feed: &[u8]) -> io::Result<Vec<u8>> {
+    let mut text = Vec::new(alloc);
+    write_listing(alloc, feed, &mut text)?;
     Ok(text)
 }
 
-fn reported(heap: Global, feed: &[u8]) -> io::Result<Vec<u8>> {
-    let mut text = Vec::new(heap);
-    write_report(heap, feed, &mut text)?;
+fn reported(alloc: Global, feed: &[u8]) -> io::Result<Vec<u8>> {
+    let mut text = Vec::new(alloc);
+    write_report(alloc, feed, &mut text)?;
     Ok(text)
 }
 
 #[test]
 fn of_unknown_kinds(rt: HostRuntime) -> Result<(), Fail> {
-    let heap = rt.alloc();
-    let feed = full_feed(heap, &UNKNOWN, 16_379)?;
+    let alloc = rt.alloc();
+    let feed = full_feed(alloc, &UNKNOWN, 16_379)?;
     let words = "unknown kind=9 length=4 refused 2";
-    assert!(rt; listed(heap, feed.as_slice())? == listing_lines(heap, 16_379, 4, words)?);
-    assert!(rt; reported(heap, feed.as_slice())? == report_lines(heap, 1, 16_379, 2)?);
+    assert!(rt; listed(alloc, feed.as_slice())? == listing_lines(alloc, 16_379, 4, words)?);
+    assert!(rt; reported(alloc, feed.as_slice())? == report_lines(alloc, 1, 16_379, 2)?);
     Ok(())
 }
 
 #[test]
 fn of_factor_rows(rt: HostRuntime) -> Result<(), Fail> {
-    let heap = rt.alloc();
-    let feed = full_feed(heap, &FACTOR, 4_679)?;
+    let alloc = rt.alloc();
+    let feed = full_feed(alloc, &FACTOR, 4_679)?;
     let words = "factor code=7 amount=7000000 unit=1";
-    assert!(rt; listed(heap, feed.as_slice())? == listing_lines(heap, 4_679, 14, words)?);
+    assert!(rt; listed(alloc, feed.as_slice())? == listing_lines(alloc, 4_679, 14, words)?);
     assert_eq!(rt;
-        reported(heap, feed.as_slice())?.as_slice(),
+        reported(alloc, feed.as_slice())?.as_slice(),
         &b"denied 0 24\n"[..]
     );
     Ok(())
@@ -97,25 +97,25 @@ fn of_factor_rows(rt: HostRuntime) -> Result<(), Fail> {
 // The first is let in, and the others repeat it.
 #[test]
 fn of_withdrawals(rt: HostRuntime) -> Result<(), Fail> {
-    let heap = rt.alloc();
-    let feed = full_feed(heap, &WITHDRAWAL, 5_459)?;
+    let alloc = rt.alloc();
+    let feed = full_feed(alloc, &WITHDRAWAL, 5_459)?;
     let words = "withdrawal number=1 revision=1";
-    assert!(rt; listed(heap, feed.as_slice())? == listing_lines(heap, 5_459, 12, words)?);
-    assert!(rt; reported(heap, feed.as_slice())? == report_lines(heap, 2, 5_459, 21)?);
+    assert!(rt; listed(alloc, feed.as_slice())? == listing_lines(alloc, 5_459, 12, words)?);
+    assert!(rt; reported(alloc, feed.as_slice())? == report_lines(alloc, 2, 5_459, 21)?);
     Ok(())
 }
 
 #[test]
 fn of_one_byte_more(rt: HostRuntime) -> Result<(), Fail> {
-    let heap = rt.alloc();
-    let mut feed = full_feed(heap, &WITHDRAWAL, 5_459)?;
+    let alloc = rt.alloc();
+    let mut feed = full_feed(alloc, &WITHDRAWAL, 5_459)?;
     feed.push(0)?;
     assert_eq!(rt;
-        listed(heap, feed.as_slice())?.as_slice(),
+        listed(alloc, feed.as_slice())?.as_slice(),
         &b"refused 25\n"[..]
     );
     assert_eq!(rt;
-        reported(heap, feed.as_slice())?.as_slice(),
+        reported(alloc, feed.as_slice())?.as_slice(),
         &b"denied 0 25\n"[..]
     );
     Ok(())
@@ -180,13 +180,13 @@ impl Write for BrokenWriter {
 // The bytes before the error have a report of their own, which must not be written.
 #[test]
 fn an_error_in_mid_stream(rt: HostRuntime) {
-    let heap = rt.alloc();
-    let mut text = Vec::new(heap);
+    let alloc = rt.alloc();
+    let mut text = Vec::new(alloc);
     let reader = BrokenReader { bytes: &BUILDING };
-    let answer = write_report(heap, reader, &mut text).map_err(|error| error.kind());
+    let answer = write_report(alloc, reader, &mut text).map_err(|error| error.kind());
     assert_eq!(rt; answer, Err(ErrorKind::BrokenPipe));
     assert!(rt; text.is_empty());
     let mut writer = BrokenWriter { room: 9 };
-    let answer = write_report(heap, &BUILDING[..], &mut writer).map_err(|error| error.kind());
+    let answer = write_report(alloc, &BUILDING[..], &mut writer).map_err(|error| error.kind());
     assert_eq!(rt; answer, Err(ErrorKind::BrokenPipe));
 }

@@ -9,7 +9,7 @@ use Rattle.factors.specs.Maps.{FactorMap}
 use Rattle.domain.specs.declared.entry.Entry.{Entry}
 use Rattle.sheet.specs.RollNotes.{RollNote, note_place}
 use Rattle.sheet.specs.Places.{PlaceNumbers}
-use Rattle.sheet.specs.Placing.{IsAhead, Agrees, HasRoom, placing_conditions}
+use Rattle.sheet.specs.Placing.{IsNotSuperseded, Agrees, HasRoom, placing_conditions}
 use Rattle.sheet.specs.Rolls.{numbers, IsRoll, empty, on_roll}
 use Rattle.sheet.specs.States.{content_conditions, Sends}
 use Rattle.sheet.proofs.Rolling.{roll_counts}
@@ -34,7 +34,7 @@ module _ (y : ℕ) (factor_map : FactorMap) (e : Entry) (cs : Conditions) (kept 
       let gone : Option PlaceNumbers = Some (note_place y factor_map withdrawal) in
       let rest : Conditions = (refusal_number Contradicted, Agrees late gone) ∷ ((refusal_number BookFull, HasRoom (1 ∷ []) 1) ∷ []) in
       answered_least (asks withdrawal (entry_at 1 e)) Superseded
-      (least_on cs (book_conditions withdrawal (entry_at 1 e)) 21 kept (least_failing [] rest 21 {P = IsAhead late gone} refl tt (λ ahead. ahead.0 (omega arith))))
+      (least_on cs (book_conditions withdrawal (entry_at 1 e)) 21 kept (least_failing [] rest 21 {P = IsNotSuperseded late gone} refl tt (λ ahead. ahead.0 (omega arith))))
 
   by_number : (r : Result (Unit {0}) Refusal) → answer_number r ≡ 21 → IsErrAnd r (λ f. refusal_number f ≡ 21)
   by_number (Ok u) e = absurd (omega arith)

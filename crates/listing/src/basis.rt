@@ -19,17 +19,17 @@ pub struct BookingBasis {
 
 impl BookingBasis {
     /// Reads the basis of a feed. It refuses nothing, and errs only where memory fails.
-    pub fn read(heap: Global, feed: &[u8]) -> Result<BookingBasis, AllocError>
+    pub fn read(alloc: Global, feed: &[u8]) -> Result<BookingBasis, AllocError>
         ensures { IfOk result (λ basis. BeginsWith feed.now basis.building basis.rows.items) }
     {
-        match Opening::read(heap, feed) {
+        match Opening::read(alloc, feed) {
             Ok(opening) => Ok(BookingBasis {
                 building: Some(opening.building),
-                rows: fit_rows(heap, opening.rows.as_slice())?,
+                rows: fit_rows(alloc, opening.rows.as_slice())?,
             }),
             Err(OpeningError::Refused(_)) => Ok(BookingBasis {
                 building: None,
-                rows: Vec::new(heap),
+                rows: Vec::new(alloc),
             }),
             Err(OpeningError::OutOfMemory(error)) => Err(error),
         }
@@ -38,12 +38,12 @@ impl BookingBasis {
 
 // The rows that can be read; refused ones are passed over.
 fn fit_rows(
-    heap: Global,
+    alloc: Global,
     answers: &[Result<FactorRow, Refusal>],
 ) -> Result<Vec<FactorRow>, AllocError>
     ensures { IfOk result (λ rows. KeepsFitAnswers answers.now rows.items) }
 {
-    let mut rows = Vec::new(heap);
+    let mut rows = Vec::new(alloc);
     for answer in answers {
         let Ok(row) = answer else { continue };
         rows.push(*row)?;

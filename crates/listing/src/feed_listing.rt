@@ -10,31 +10,31 @@ use feed::{Part, Reader};
 use std::alloc::{AllocError, Global};
 
 /// The listing of a feed's bytes, however many: a line for each note, and a last line that says how the feed ends.
-pub fn listing(heap: Global, feed: &[u8]) -> Result<String, AllocError>
+pub fn listing(alloc: Global, feed: &[u8]) -> Result<String, AllocError>
     ensures value { IfOk result (λ s. ListsFeed feed.now (string_bytes s)) }
     ensures only { IfOk result (λ s. IsOnlyText (ListsFeed feed.now) (string_bytes s)) }
 {
-    let basis = BookingBasis::read(heap, feed)?;
-    let mut text = String::new(heap);
+    let basis = BookingBasis::read(alloc, feed)?;
+    let mut text = String::new(alloc);
     let mut reader = Reader::new(feed);
     while let Some(part) = reader.next_note() {
-        let line = part_line(heap, &basis, &part)?;
+        let line = part_line(alloc, &basis, &part)?;
         text.push_str(line.as_str())?;
     }
-    let last = last_line(heap, &basis, &reader.rest())?;
+    let last = last_line(alloc, &basis, &reader.rest())?;
     text.push_str(last.as_str())?;
     Ok(text)
 }
 
 // The line for the bytes that are left after the last note. It takes the heap and the basis as `part_line` does, since
 // a struct for the two would be no plainer.
-fn last_line(heap: Global, basis: &BookingBasis, left: &Part) -> Result<String, AllocError>
+fn last_line(alloc: Global, basis: &BookingBasis, left: &Part) -> Result<String, AllocError>
     ensures { IfOk result (λ s. IsLastPartLine (basis_of basis.now) left.now (string_bytes s)) }
 {
     if left.bytes.is_empty() {
         let start = left.start;
-        format!(in heap; "end at={start}\n")
+        format!(in alloc; "end at={start}\n")
     } else {
-        part_line(heap, basis, left)
+        part_line(alloc, basis, left)
     }
 }

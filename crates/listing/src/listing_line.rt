@@ -11,12 +11,12 @@ use std::alloc::{AllocError, Global};
 
 /// The line of a part of a feed: its place and start, then the fields of its first note and what it is booked at, or
 /// the number of the refusal.
-pub fn part_line(heap: Global, basis: &BookingBasis, part: &Part) -> Result<String, AllocError>
+pub fn part_line(alloc: Global, basis: &BookingBasis, part: &Part) -> Result<String, AllocError>
     ensures value { IfOk result (λ s. IsPartLine (basis_of basis.now) part.now (string_bytes s)) }
     ensures only { IfOk result (λ s. IsOnlyText (IsPartLine (basis_of basis.now) part.now) (string_bytes s)) }
 {
     let place = part.place;
     let start = part.start;
     let statement = Statement::of(basis, part.bytes);
-    format!(in heap; "{place} at={start} {statement}\n")
+    format!(in alloc; "{place} at={start} {statement}\n")
 }

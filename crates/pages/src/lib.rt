@@ -11,7 +11,7 @@ mod page;
 
 pub use by_row::ByRow;
 pub use by_stage::ByStage;
-pub use by_type::ByType;
+pub use by_type::{ByType, EmissionType};
 pub use cut::Cut;
 pub use figure::Figure;
 pub use page::write_page;

@@ -12,7 +12,7 @@ use refusals::Refusal;
 use totals::Totals;
 
 // A kilogram, in grams.
-const KILOGRAM: u32 = 1_000;
+const GRAMS_PER_KILOGRAM: u32 = 1_000;
 
 /// Writes the figure of each heading into the first places lent, and returns the figure of the total. Running sums of
 /// grams are rounded to whole kilograms, a half going up, and a heading prints by how much they grow; so the headings
@@ -56,7 +56,7 @@ fn whole_kilograms(grams: i64) -> i64
 {
     let exact = Ratio {
         numerator: grams,
-        divisor: KILOGRAM,
+        divisor: GRAMS_PER_KILOGRAM,
     };
     exact.round()
 }

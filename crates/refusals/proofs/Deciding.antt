@@ -4,7 +4,7 @@ use Rattle.std.specs.Bool.{IsTrue}
 use Rattle.std.proofs.lemmas.Bool.Decides.{nat_tests}
 use Rattle.std.proofs.str.Laws.{order}
 use Rattle.refusals.specs.declared.refusal.Refusal.{Refusal}
-use Rattle.refusals.specs.Refusals.{refusal_number, Conditions, AllHold, OneFails, IsLeastFailing, IsAnswerNumber, GivesOrRefuses}
+use Rattle.refusals.specs.Refusals.{refusal_number, Conditions, AllHold, SomeFails, IsLeastFailing, IsAnswerNumber, GivesOrRefuses}
 
 -- ---- The order of conditions
 
@@ -43,37 +43,37 @@ pub right_hold : (cs ds : Conditions) → AllHold (cs ++ ds) → AllHold ds
 right_hold [] ds k = k
 right_hold (c ∷ cs) ds k = right_hold cs ds k.1
 
-pub none_fails : (cs : Conditions) → AllHold cs → (n : ℕ) → OneFails cs n → ⊥
+pub none_fails : (cs : Conditions) → AllHold cs → (n : ℕ) → SomeFails cs n → ⊥
 none_fails [] k n b = b
 none_fails (c ∷ cs) k n (inl e) = e.1 k.0
 none_fails (c ∷ cs) k n (inr b) = none_fails cs k.1 n b
 
-pub fails_either : (cs ds : Conditions) (n : ℕ) → OneFails (cs ++ ds) n → OneFails cs n ⊎ OneFails ds n
+pub fails_either : (cs ds : Conditions) (n : ℕ) → SomeFails (cs ++ ds) n → SomeFails cs n ⊎ SomeFails ds n
 fails_either [] ds n b = inr b
 fails_either (c ∷ cs) ds n (inl e) = inl (inl e)
 fails_either (c ∷ cs) ds n (inr b) = ⊎_elim (λ a. inl (inr a)) inr (fails_either cs ds n b)
 
-pub fails_left : (cs ds : Conditions) (n : ℕ) → OneFails cs n → OneFails (cs ++ ds) n
+pub fails_left : (cs ds : Conditions) (n : ℕ) → SomeFails cs n → SomeFails (cs ++ ds) n
 fails_left [] ds n b = absurd b
 fails_left (c ∷ cs) ds n (inl e) = inl e
 fails_left (c ∷ cs) ds n (inr b) = inr (fails_left cs ds n b)
 
-fails_right : (cs ds : Conditions) (n : ℕ) → OneFails ds n → OneFails (cs ++ ds) n
+fails_right : (cs ds : Conditions) (n : ℕ) → SomeFails ds n → SomeFails (cs ++ ds) n
 fails_right [] ds n b = b
 fails_right (c ∷ cs) ds n b = inr (fails_right cs ds n b)
 
 -- no condition with the number n fails, where none has that number
-pub number_absent : (cs : Conditions) (n : ℕ) → IsTrue (without n (numbers cs)) → OneFails cs n → ⊥
+pub number_absent : (cs : Conditions) (n : ℕ) → IsTrue (without n (numbers cs)) → SomeFails cs n → ⊥
 number_absent [] n w b = b
 number_absent (c ∷ cs) n w (inl e) = grind (arith, nat_tests)
 number_absent (c ∷ cs) n w (inr b) = number_absent cs n (grind (arith, nat_tests)) b
 
 -- nor is n the smallest number of one that fails
 pub absent_not_least : (cs : Conditions) (n : ℕ) → IsTrue (without n (numbers cs)) → {k : ℕ} → IsLeastFailing cs k → k ≡ n → ⊥
-absent_not_least cs n w least is = number_absent cs n w (subst (OneFails cs) is least.0)
+absent_not_least cs n w least is = number_absent cs n w (subst (SomeFails cs) is least.0)
 
 -- where all numbers are above n, a condition that fails has a number above n
-after : (n : ℕ) (cs : Conditions) → IsTrue (all_after n (numbers cs)) → (k : ℕ) → OneFails cs k → n < k
+after : (n : ℕ) (cs : Conditions) → IsTrue (all_after n (numbers cs)) → (k : ℕ) → SomeFails cs k → n < k
 after n [] a k b = absurd b
 after n (c ∷ cs) a k (inl e) = grind (arith, nat_tests)
 after n (c ∷ cs) a k (inr b) = after n cs (grind (arith, nat_tests)) k b
@@ -83,7 +83,7 @@ after_right n [] ds a = a
 after_right n (c ∷ cs) ds a = after_right n cs ds (grind (arith, nat_tests))
 
 -- of two lists in ascending order, a number that fails in the first is below one that fails in the second
-pub earlier : (cs ds : Conditions) → InOrder (cs ++ ds) → (m k : ℕ) → OneFails cs m → OneFails ds k → m < k
+pub earlier : (cs ds : Conditions) → InOrder (cs ++ ds) → (m k : ℕ) → SomeFails cs m → SomeFails ds k → m < k
 earlier [] ds o m k b d = absurd b
 earlier (c ∷ cs) ds o m k (inl e) d =
     let later = after c.0 ds (after_right c.0 cs ds (grind (arith, nat_tests))) k d in omega (arith, e.0, later)
@@ -106,7 +106,7 @@ least_stop cs ds n o d =
     (fails_left cs ds n d.0, λ m l b. ⊎_elim (d.1 m l) (λ e. let later = earlier cs ds o n m d.0 e in omega arith) (fails_either cs ds m b))
 
 -- where the smallest number is of the second list, no condition of the first fails
-pub first_hold : (cs ds : Conditions) (k : ℕ) → InOrder (cs ++ ds) → IsLeastFailing (cs ++ ds) k → OneFails ds k → (m : ℕ) → OneFails cs m → ⊥
+pub first_hold : (cs ds : Conditions) (k : ℕ) → InOrder (cs ++ ds) → IsLeastFailing (cs ++ ds) k → SomeFails ds k → (m : ℕ) → SomeFails cs m → ⊥
 first_hold cs ds k o least d m b = least.1 m (earlier cs ds o m k b d) (fails_left cs ds m b)
 
 -- in ascending order, the first condition that fails has the smallest number
@@ -115,7 +115,7 @@ least_failing before after n {P} o kept fails =
     least_on before ((n, P) ∷ after) n kept
     (inl (refl, fails), λ m l b. ⊎_elim (λ e. omega (arith, e.0)) (λ later. let l' = after_in before o m later in omega arith) b)
   where
-    after_in : (bs : Conditions) → InOrder (bs ++ ((n, P) ∷ after)) → (m : ℕ) → OneFails after m → n < m
+    after_in : (bs : Conditions) → InOrder (bs ++ ((n, P) ∷ after)) → (m : ℕ) → SomeFails after m → n < m
     after_in bs o m b = earlier ((n, P) ∷ []) after (right bs o) n m (inl (refl, fails)) b
       where
         right : (bs : Conditions) → InOrder (bs ++ ((n, P) ∷ after)) → InOrder ((n, P) ∷ after)
@@ -133,16 +133,16 @@ either true A B = A
 either false A B = B
 
 -- the first condition with the number n, or nothing where there is none
-abbrev pub conditions_at : ℕ → Conditions → Type 0
-conditions_at n [] = Unit {0}
-conditions_at n (c ∷ cs) = either (c.0 == n) c.1 (conditions_at n cs)
+abbrev pub condition_at : ℕ → Conditions → Type 0
+condition_at n [] = Unit {0}
+condition_at n (c ∷ cs) = either (c.0 == n) c.1 (condition_at n cs)
 
 one_of : {A B : Type 0} (t : Bool) → A → B → either t A B
 one_of true a b = a
 one_of false a b = b
 
 -- where all conditions hold, so does the one with the number n
-pub hold_at : (n : ℕ) (cs : Conditions) → AllHold cs → conditions_at n cs
+pub hold_at : (n : ℕ) (cs : Conditions) → AllHold cs → condition_at n cs
 hold_at n [] k = tt
 hold_at n (c ∷ cs) k = one_of (c.0 == n) k.0 (hold_at n cs k.1)
 

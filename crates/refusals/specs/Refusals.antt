@@ -41,13 +41,13 @@ AllHold [] = Unit {0}
 AllHold (c ∷ cs) = c.1 × AllHold cs
 
 -- some condition with the number n fails
-abbrev pub OneFails : Conditions → ℕ → Type 0
-OneFails [] n = ⊥
-OneFails (c ∷ cs) n = ((n ≡ c.0) × (c.1 → ⊥)) ⊎ OneFails cs n
+abbrev pub SomeFails : Conditions → ℕ → Type 0
+SomeFails [] n = ⊥
+SomeFails (c ∷ cs) n = ((n ≡ c.0) × (c.1 → ⊥)) ⊎ SomeFails cs n
 
 -- n is the smallest number of the conditions that fail
 abbrev pub IsLeastFailing : Conditions → ℕ → Type 0
-IsLeastFailing cs n = OneFails cs n × ((m : ℕ) → m < n → OneFails cs m → ⊥)
+IsLeastFailing cs n = SomeFails cs n × ((m : ℕ) → m < n → SomeFails cs m → ⊥)
 
 -- the number of a result: 0 for a value, and otherwise that of the refusal
 abbrev pub answer_number : {X : Type 0} → Result X Refusal → ℕ

@@ -29,7 +29,7 @@ use Rattle.pages.proofs.Shown.{shown}
 use Rattle.report.specs.ProjectReports.{SplitsIntoSends, ended as all_sent, unframed, note, IsProjectReport, EndsLawfully}
 use Rattle.report.specs.Calls.{history_text, send_text}
 use Rattle.report.specs.ReportLines.{denied_line, page_lines, grade_line}
-use Rattle.report.specs.Reports.{IsReportText, denied, account, IsLawfulReport, IsReport}
+use Rattle.report.specs.Reports.{IsReportText, denied, of_project, IsLawfulReport, IsReport}
 use Rattle.report.proofs.Concluding.{concludes}
 use Rattle.report.specs.Projects.{size_conditions, row_conditions, ReadsRow, ProjectParts, project_parts, TakesRows, all, row, refused, Opens, too_long, no_building, row_refused, project}
 
@@ -135,8 +135,8 @@ module _ (b : BuildingNumbers) (factor_map : FactorMap) where
       let grade_is : n ≡ n' = one_grade grades grades'' in
       (λ i. (sent.1 i ++ page_lines (figures i) (totals i)) ++ grade_line (grade_is i))
 
-account_only : (c : ProjectParts) (text other : List ℕ) → IsProjectReport c text → IsProjectReport c other → text ≡ other
-account_only c text other a a' =
+project_report_only : (c : ProjectParts) (text other : List ℕ) → IsProjectReport c text → IsProjectReport c other → text ≡ other
+project_report_only c text other a a' =
     let sent_bytes = sends_of_only c.notes a.sends a'.sends a.sent a'.sent in
     let bytes : map (λ x. x.0) a.calls.answered ≡ map (λ x. x.0) a'.calls.answered = a.calls.sent ∙ ap reverse sent_bytes ∙ sym a'.calls.sent in
     a.written ∙ ends_once c.building (project_map c.rows) a.calls.answered a'.calls.answered a.calls.last a'.calls.last a.places a'.places a.after a'.after a.total a'.total a.grade a'.grade bytes a.calls.history a'.calls.history ∙ sym a'.written
@@ -144,15 +144,15 @@ account_only c text other a a' =
 pub report_only : {feed text other : List ℕ} → IsReportText feed text → IsReportText feed other → text ≡ other
 report_only {feed} (denied {f = f} opens is) (denied {f = g} opens' is') =
     is ∙ denied_same 0 f g (opens_only feed (Err f) (Err g) opens opens') ∙ sym is'
-report_only {feed} (denied {f = f} opens is) (account {c = c} opens' a) = absurd (opens_only feed (Err f) (Ok c) opens opens')
-report_only {feed} (account {c = c} opens a) (denied {f = f} opens' is) = absurd (opens_only feed (Ok c) (Err f) opens opens')
-report_only {feed} {text} {other} (account {c = c} opens a) (account {c = d} opens' a') =
-    account_only c text other a (subst (λ x. IsProjectReport x other) (sym (opens_only feed (Ok c) (Ok d) opens opens')) a')
+report_only {feed} (denied {f = f} opens is) (of_project {c = c} opens' a) = absurd (opens_only feed (Err f) (Ok c) opens opens')
+report_only {feed} (of_project {c = c} opens a) (denied {f = f} opens' is) = absurd (opens_only feed (Ok c) (Err f) opens opens')
+report_only {feed} {text} {other} (of_project {c = c} opens a) (of_project {c = d} opens' a') =
+    project_report_only c text other a (subst (λ x. IsProjectReport x other) (sym (opens_only feed (Ok c) (Ok d) opens opens')) a')
 
 -- a report is lawful
 pub report_lawful : {feed text : List ℕ} → IsReportText feed text → IsLawfulReport feed text
 report_lawful {feed} (denied {f = f} opens is) c opens' = absurd (opens_only feed (Err f) (Ok c) opens opens')
-report_lawful {feed} {text} (account {c = d} opens a) c opens' =
+report_lawful {feed} {text} (of_project {c = d} opens a) c opens' =
     subst (λ x. EndsLawfully x text) (opens_only feed (Ok d) (Ok c) opens opens') (concludes d text a)
 
 pub is_report : {feed text : List ℕ} → IsReportText feed text → IsReport feed text

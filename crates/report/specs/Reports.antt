@@ -9,7 +9,7 @@ use Rattle.feed.specs.Writing.{IsOnlyText}
 -- text is the report of a feed: the refusal before anything is sent, and nothing more, or the report of its project
 pub data IsReportText (feed text : List ℕ) : Type 0 where
   denied : {f : Refusal} → Opens feed (Err f) → text ≡ denied_line 0 f → IsReportText feed text
-  account : {c : ProjectParts} → Opens feed (Ok c) → IsProjectReport c text → IsReportText feed text
+  of_project : {c : ProjectParts} → Opens feed (Ok c) → IsProjectReport c text → IsReportText feed text
 
 -- where a feed is not refused before anything is sent, its report ends with a lawful page and a lawful grade
 abbrev pub IsLawfulReport : List ℕ → List ℕ → Type 0

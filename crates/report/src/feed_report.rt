@@ -12,14 +12,14 @@ use std::alloc::{AllocError, Global};
 /// The report of a feed's bytes: a line for each refused send, the page by stage and the grade. A feed that is refused
 /// before anything is sent, by `Unframed` (1) to `OutOfRange` (4), `TooManyRows` (24) or `FeedTooLong` (25), has the
 /// one line `denied 0 NUMBER`.
-pub fn report(heap: Global, feed: &[u8]) -> Result<String, AllocError>
+pub fn report(alloc: Global, feed: &[u8]) -> Result<String, AllocError>
     ensures value { IfOk result (λ text. IsReportText feed.now (string_bytes text)) }
     ensures only { IfOk result (λ text. IsOnlyText (IsReportText feed.now) (string_bytes text)) }
     ensures law { IfOk result (λ text. IsLawfulReport feed.now (string_bytes text)) }
 {
-    match Project::read(heap, feed) {
-        Ok(project) => project_report(heap, &project),
-        Err(OpeningError::Refused(refusal)) => denied_line(heap, 0, refusal),
+    match Project::read(alloc, feed) {
+        Ok(project) => project_report(alloc, &project),
+        Err(OpeningError::Refused(refusal)) => denied_line(alloc, 0, refusal),
         Err(OpeningError::OutOfMemory(error)) => Err(error),
     }
 }

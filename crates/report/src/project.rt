@@ -7,7 +7,7 @@ ghost use Rattle.refusals.specs.Refusals.{GivesOrRefusesBy};
 ghost use Rattle.report.specs.Projects.{ReadsProject, ReadsRow, ReadsRows};
 
 use domain::{Building, FactorRow};
-use feed::{MAX_BYTES, Opening, OpeningError};
+use feed::{MAX_FEED_BYTES, Opening, OpeningError};
 use refusals::Refusal;
 use std::alloc::Global;
 
@@ -25,12 +25,12 @@ pub(crate) struct Project<'a> {
 impl<'a> Project<'a> {
     // Reads the project that a feed opens with. Refused by `FeedTooLong` (25), by 1 to 4 where the building or a row
     // is, or by `TooManyRows` (24).
-    pub(crate) fn read(heap: Global, feed: &'a [u8]) -> Result<Project<'a>, OpeningError>
+    pub(crate) fn read(alloc: Global, feed: &'a [u8]) -> Result<Project<'a>, OpeningError>
         ensures { ReadsProject feed.now result }
     {
         check_length(feed)?;
-        let opening = Opening::read(heap, feed)?;
-        let rows = own_rows(heap, opening.rows.as_slice())?;
+        let opening = Opening::read(alloc, feed)?;
+        let rows = own_rows(alloc, opening.rows.as_slice())?;
         Ok(Project {
             building: opening.building,
             rows,
@@ -42,7 +42,7 @@ impl<'a> Project<'a> {
 fn check_length(feed: &[u8]) -> Result<(), Refusal>
     ensures { GivesOrRefusesBy (length feed.now ≤ 65536) FeedTooLong (λ _. Unit {0}) result }
 {
-    if feed.len() > MAX_BYTES {
+    if feed.len() > MAX_FEED_BYTES {
         return Err(Refusal::FeedTooLong);
     }
     Ok(())
@@ -50,12 +50,12 @@ fn check_length(feed: &[u8]) -> Result<(), Refusal>
 
 // The project's own factors: every row, or the refusal of the first that is refused.
 fn own_rows(
-    heap: Global,
+    alloc: Global,
     answers: &[Result<FactorRow, Refusal>],
 ) -> Result<Vec<FactorRow>, OpeningError>
     ensures { (notes : List (List ℕ)) → ReadsEachRow notes answers.now → ReadsRows notes result }
 {
-    let mut rows = Vec::new(heap);
+    let mut rows = Vec::new(alloc);
     for answer in answers {
         let row = own_row(*answer, rows.len())?;
         rows.push(row)?;

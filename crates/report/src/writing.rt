@@ -11,13 +11,13 @@ use std::io::{self, Read, Write};
 /// Reads a feed, and writes its report as a whole. Errs where reading, memory or writing fails; only where writing
 /// itself fails may a part have been written. Of a feed that is too long, no more than 65,537 bytes are read.
 pub fn write_report<R: Read + Drop, W: Write>(
-    heap: Global,
+    alloc: Global,
     reader: R,
     writer: &mut W,
 ) -> io::Result<()>
     ensures { OnOk result (WritesFor IsReport (R.remaining reader) (W.contents writer.old) (W.contents writer.new)) }
 {
-    let feed = read_feed(heap, reader)?;
-    let text = report(heap, feed.as_slice())?;
+    let feed = read_feed(alloc, reader)?;
+    let text = report(alloc, feed.as_slice())?;
     writer.write_all(text.as_str().as_bytes())
 }

@@ -3,7 +3,7 @@ use Rattle.std.proofs.Common.{◌≡◌, ℕ, List, [], ◌∷◌, map, Some, in
 use Rattle.factors.specs.Maps.{FactorMap}
 use Rattle.sheet.specs.RollNotes.{RollNote, note_place}
 use Rattle.sheet.specs.Places.{PlaceNumbers}
-use Rattle.sheet.specs.Placing.{place_under, IsAhead, Agrees, IsAmong, HasRoom, places_with}
+use Rattle.sheet.specs.Placing.{place_under, IsNotSuperseded, Agrees, IsAmong, HasRoom, places_with}
 use Rattle.sheet.specs.Rolls.{numbers, note_of_bytes, IsRoll, empty, unfit, without_room, on_roll, entries_of, AreCounted}
 use Rattle.sheet.proofs.Deciders.{decide, deciding, decides_one, names, Enters, last, ahead, behind, past}
 
@@ -35,28 +35,28 @@ module _ (y : ℕ) (factor_map : FactorMap) where
   under_past n m ms o = grind arith
 
   -- a place that is ahead of its number's and agrees with it replaces it, and so does its note among those that decide
-  pub places_enter : {n : RollNote} {ms ns : List RollNote} → Enters n ms ns → IsAhead (line n) (place_under n.number (map line ms)) → Agrees (line n) (place_under n.number (map line ms)) → places_with (line n) (map line ms) ≡ map line ns
+  pub places_enter : {n : RollNote} {ms ns : List RollNote} → Enters n ms ns → IsNotSuperseded (line n) (place_under n.number (map line ms)) → Agrees (line n) (place_under n.number (map line ms)) → places_with (line n) (map line ms) ≡ map line ns
   places_enter last a g = refl
   places_enter (ahead e l) a g = grind arith
   places_enter {n} (behind {m} {ms} e l) a g =
       let held = under_here n m ms e in
-      let a' : IsAhead (line n) (Some (line m)) = subst (IsAhead (line n)) held a in
+      let a' : IsNotSuperseded (line n) (Some (line m)) = subst (IsNotSuperseded (line n)) held a in
       let g' : Agrees (line n) (Some (line m)) = subst (Agrees (line n)) held g in
       let r : n.revision ≡ m.revision = omega (arith, a'.0, l) in
       absurd (a'.1 r (g' r))
   places_enter {n} (past {m} {ms} o r) a g =
       let held = under_past n m ms o in
-      grind (arith, places_enter r (subst (IsAhead (line n)) held a) (subst (Agrees (line n)) held g))
+      grind (arith, places_enter r (subst (IsNotSuperseded (line n)) held a) (subst (Agrees (line n)) held g))
 
   -- a place that is behind its number's, or contradicts it, has a number that is held, and its note decides nothing
-  pub stays : {n : RollNote} {ms ns : List RollNote} → Enters n ms ns → (IsAhead (line n) (place_under n.number (map line ms)) → Agrees (line n) (place_under n.number (map line ms)) → ⊥) → IsAmong n.number (names ms) × (ns ≡ ms)
+  pub stays : {n : RollNote} {ms ns : List RollNote} → Enters n ms ns → (IsNotSuperseded (line n) (place_under n.number (map line ms)) → Agrees (line n) (place_under n.number (map line ms)) → ⊥) → IsAmong n.number (names ms) × (ns ≡ ms)
   stays last h = absurd (h tt tt)
   stays {n} (ahead {m} {ms} e l) h =
-      let refused = subst (λ o. IsAhead (line n) o → Agrees (line n) o → ⊥) (under_here n m ms e) h in
+      let refused = subst (λ o. IsNotSuperseded (line n) o → Agrees (line n) o → ⊥) (under_here n m ms e) h in
       absurd (refused ((λ b. omega arith), (λ r. omega arith)) (λ r. absurd (omega arith)))
   stays (behind e l) h = (inl e, refl)
   stays {n} (past {m} {ms} o r) h =
-      let s = stays r (subst (λ o. IsAhead (line n) o → Agrees (line n) o → ⊥) (under_past n m ms o) h) in
+      let s = stays r (subst (λ o. IsNotSuperseded (line n) o → Agrees (line n) o → ⊥) (under_past n m ms o) h) in
       (inr s.0, ap (λ ns. m ∷ ns) s.1)
 
 -- the entries of the notes that decide on the roll of sends are those that are counted

@@ -3,13 +3,13 @@ use Rattle.std.proofs.Common.{◌≡◌, ℕ, List, [], ◌∷◌, ◌++◌, map
 use Rattle.std.specs.List.{AllByRecursion}
 use Rattle.refusals.specs.declared.refusal.Refusal.{Refusal}
 use Rattle.refusals.specs.declared.refusal.Refusal.TheVariants.{Superseded, Contradicted, BookFull}
-use Rattle.refusals.specs.Refusals.{refusal_number, Conditions, AllHold, OneFails, IsLeastFailing}
+use Rattle.refusals.specs.Refusals.{refusal_number, Conditions, AllHold, SomeFails, IsLeastFailing}
 use Rattle.refusals.proofs.Deciding.{none_fails, left_hold, right_hold, hold_at, fails_either, first_hold, least_answered}
 use Rattle.factors.specs.Maps.{FactorMap}
 use Rattle.domain.specs.declared.building.BuildingNumbers.{BuildingNumbers}
 use Rattle.sheet.specs.RollNotes.{RollNote, entry_conditions, note_place}
 use Rattle.sheet.specs.Places.{PlaceNumbers}
-use Rattle.sheet.specs.Placing.{place_under, IsAhead, Agrees, HasRoom, IsAmong, placing_conditions}
+use Rattle.sheet.specs.Placing.{place_under, IsNotSuperseded, Agrees, HasRoom, IsAmong, placing_conditions}
 use Rattle.sheet.specs.Rolls.{numbers, note_of_bytes, IsUnfit, IsRoll, empty, unfit, without_room, on_roll}
 use Rattle.sheet.specs.States.{State, new_state, content_conditions, send_conditions, state_with, Sends}
 use Rattle.feed.specs.Readings.{reading_conditions}
@@ -51,8 +51,8 @@ module _ (b : BuildingNumbers) (factor_map : FactorMap) where
     abbrev new : PlaceNumbers
     new = note_place y factor_map n
 
-    abbrev content_asked : Conditions
-    content_asked = content_conditions y factor_map bs
+    abbrev conditions_of_content : Conditions
+    conditions_of_content = content_conditions y factor_map bs
 
     abbrev book_conditions : Conditions
     book_conditions = placing_conditions held new
@@ -61,21 +61,21 @@ module _ (b : BuildingNumbers) (factor_map : FactorMap) where
     same_numbers : map (λ t. t.number) held ≡ numbers roll
     same_numbers = places_numbers y factor_map ns ∙ names_decide roll
 
-    let_in : AllHold (content_asked ++ book_conditions) → Standing (bs ∷ sends) (state_with (holding roll) new)
+    let_in : AllHold (conditions_of_content ++ book_conditions) → Standing (bs ∷ sends) (state_with (holding roll) new)
     let_in kept =
-        let asks = left_hold content_asked book_conditions kept in
-        let places = right_hold content_asked book_conditions kept in
+        let asks = left_hold conditions_of_content book_conditions kept in
+        let places = right_hold conditions_of_content book_conditions kept in
         let ahead = hold_at (refusal_number Superseded) book_conditions places in
         let agrees = hold_at (refusal_number Contradicted) book_conditions places in
         record {
           roll = n ∷ roll;
-          is_roll = on_roll bs is_roll (λ u. none_fails content_asked asks u.0 u.1) (subst (λ ks. HasRoom ks n.number) same_numbers (hold_at (refusal_number BookFull) book_conditions places));
+          is_roll = on_roll bs is_roll (λ u. none_fails conditions_of_content asks u.0 u.1) (subst (λ ks. HasRoom ks n.number) same_numbers (hold_at (refusal_number BookFull) book_conditions places));
           holds = λ i. record { building = b; factor_map = factor_map; places = places_enter y factor_map (enters n ns) ahead agrees i };
           sound = all_enter (Sound y factor_map) (enters n ns) (right_hold (reading_conditions IsSent bs) (entry_conditions y factor_map n.entry) asks) sound;
         }
 
     -- a place that is behind that of its number, or contradicts it
-    behind : (IsUnfit y factor_map bs → ⊥) → (IsAhead new (place_under n.number held) → Agrees new (place_under n.number held) → ⊥) → Standing (bs ∷ sends) (holding roll)
+    behind : (IsUnfit y factor_map bs → ⊥) → (IsNotSuperseded new (place_under n.number held) → Agrees new (place_under n.number held) → ⊥) → Standing (bs ∷ sends) (holding roll)
     behind fit h =
         let s = stays y factor_map (enters n ns) h in
         record {
@@ -90,17 +90,17 @@ module _ (b : BuildingNumbers) (factor_map : FactorMap) where
     no_room fit full = record { roll = roll; is_roll = without_room bs is_roll fit (λ room. full (subst (λ ks. HasRoom ks n.number) (sym same_numbers) room)); holds = refl; sound = sound }
 
     -- a condition of the book fails, by each of its conditions
-    unplaced_for : {k : ℕ} → (IsUnfit y factor_map bs → ⊥) → OneFails book_conditions k → Standing (bs ∷ sends) (holding roll)
-    unplaced_for fit (inl superseded) = behind fit (λ ahead agrees. superseded.1 ahead)
-    unplaced_for fit (inr (inl contradicted)) = behind fit (λ ahead agrees. contradicted.1 agrees)
-    unplaced_for fit (inr (inr (inl full))) = no_room fit full.1
-    unplaced_for fit (inr (inr (inr nothing))) = absurd nothing
+    without_room_for : {k : ℕ} → (IsUnfit y factor_map bs → ⊥) → SomeFails book_conditions k → Standing (bs ∷ sends) (holding roll)
+    without_room_for fit (inl superseded) = behind fit (λ ahead agrees. superseded.1 ahead)
+    without_room_for fit (inr (inl contradicted)) = behind fit (λ ahead agrees. contradicted.1 agrees)
+    without_room_for fit (inr (inr (inl full))) = no_room fit full.1
+    without_room_for fit (inr (inr (inr nothing))) = absurd nothing
 
-    refused : (k : ℕ) → IsLeastFailing (content_asked ++ book_conditions) k → Standing (bs ∷ sends) (holding roll)
+    refused : (k : ℕ) → IsLeastFailing (conditions_of_content ++ book_conditions) k → Standing (bs ∷ sends) (holding roll)
     refused k least =
         ⊎_elim (λ u. record { roll = roll; is_roll = unfit bs is_roll (k, u); holds = refl; sound = sound })
-        (λ p. unplaced_for (λ u. first_hold content_asked book_conditions k (in_order (holding roll) bs) least p u.0 u.1) p)
-        (fails_either content_asked book_conditions k least.0)
+        (λ p. without_room_for (λ u. first_hold conditions_of_content book_conditions k (in_order (holding roll) bs) least p u.0 u.1) p)
+        (fails_either conditions_of_content book_conditions k least.0)
 
     one_send : {r : Result (Unit {0}) Refusal} {t : State} → Sends (holding roll) bs r t → Standing (bs ∷ sends) t
     one_send {r = Ok u} step = subst (Standing (bs ∷ sends)) (sym step.let_in) (let_in (step.number.kept refl))

@@ -22,9 +22,9 @@ place_under k [] = None
 place_under k (t ∷ ts) = if t.number == k then Some t else place_under k ts
 
 -- `new` is ahead of what its number holds: this has no higher revision, and not the same revision with an equal line
-abbrev pub IsAhead : PlaceNumbers → Option PlaceNumbers → Type 0
-IsAhead new None = Unit {0}
-IsAhead new (Some old) = (new.revision < old.revision → ⊥) × (new.revision ≡ old.revision → EqualLines new.line old.line → ⊥)
+abbrev pub IsNotSuperseded : PlaceNumbers → Option PlaceNumbers → Type 0
+IsNotSuperseded new None = Unit {0}
+IsNotSuperseded new (Some old) = (new.revision < old.revision → ⊥) × (new.revision ≡ old.revision → EqualLines new.line old.line → ⊥)
 
 -- `new` agrees with what its number holds: where the revisions are the same, the lines are equal
 abbrev pub Agrees : PlaceNumbers → Option PlaceNumbers → Type 0
@@ -33,7 +33,7 @@ Agrees new (Some old) = new.revision ≡ old.revision → EqualLines new.line ol
 
 -- the conditions on what is held under the number
 abbrev pub replacing_conditions : PlaceNumbers → Option PlaceNumbers → Conditions
-replacing_conditions new old = (refusal_number Superseded, IsAhead new old) ∷ (refusal_number Contradicted, Agrees new old) ∷ []
+replacing_conditions new old = (refusal_number Superseded, IsNotSuperseded new old) ∷ (refusal_number Contradicted, Agrees new old) ∷ []
 
 -- r says whether a line may replace the one that is held under its number
 abbrev pub MayReplace : PlaceNumbers → PlaceNumbers → Result (Unit {0}) Refusal → Type 0

@@ -2,7 +2,7 @@
 use Rattle.std.specs.Prelude.{◌≡◌, ℕ, ◌≤◌, if◌then◌else◌, List, [], ◌∷◌, ◌++◌, ◌==◌}
 use Rattle.std.specs.List.{AllByRecursion, flat_map}
 use Rattle.std.specs.Option.{option_to_list}
-use Rattle.refusals.specs.Refusals.{OneFails}
+use Rattle.refusals.specs.Refusals.{SomeFails}
 use Rattle.factors.specs.Maps.{FactorMap}
 use Rattle.feed.specs.Frames.{first_note}
 use Rattle.domain.specs.declared.entry.Entry.{Entry}
@@ -27,7 +27,7 @@ note_of_bytes bs = roll_note (first_note bs)
 module _ (y : ℕ) (factor_map : FactorMap) where
   -- a condition on the content of the bytes fails
   abbrev pub IsUnfit : List ℕ → Type 0
-  IsUnfit bs = (n : ℕ) × OneFails (content_conditions y factor_map bs) n
+  IsUnfit bs = (n : ℕ) × SomeFails (content_conditions y factor_map bs) n
 
   -- the roll of sends, the latest first: each note is listed unless its content is unfit, or its number is new and 512
   -- are listed

@@ -22,7 +22,7 @@ pub record State : Type 0 where
 
 -- the state of a sheet, by the map of its source
 abbrev pub state_of : {S : Type 0} → (S → FactorMap) → Sheet S → State
-state_of known_of s = record { building = numbers_of s.building; factor_map = known_of s.source; places = book_places s.book }
+state_of map_of s = record { building = numbers_of s.building; factor_map = map_of s.source; places = book_places s.book }
 
 -- one place of the book is changed, and nothing else of the sheet
 pub record ChangesPlaceOnly {S : Type 0} (before after : Sheet S) : Type 0 where

@@ -27,7 +27,7 @@ const REFRIGERANTS: [&str; 15] = [
 ];
 
 // A kilogram and a tenth of one, in tenths of a gram.
-const KILOGRAM: u32 = 10_000;
+const TENTHS_OF_A_GRAM_PER_KILOGRAM: u32 = 10_000;
 
 const TENTH: u32 = 1_000;
 
@@ -38,8 +38,8 @@ struct Kilograms(u32);
 
 impl fmt::Display for Kilograms {
     fn fmt<W: fmt::Write>(&self, f: &mut fmt::Formatter<W>) -> fmt::Result {
-        let whole = self.0 / KILOGRAM;
-        let rest = self.0 % KILOGRAM;
+        let whole = self.0 / TENTHS_OF_A_GRAM_PER_KILOGRAM;
+        let rest = self.0 % TENTHS_OF_A_GRAM_PER_KILOGRAM;
         let tenths = rest / TENTH;
         if rest == 0 {
             write!(f, "{whole}")

@@ -1,6 +1,6 @@
 use Rattle.std.proofs.Common.{Err, string_bytes}
 use Rattle.std.proofs.lemmas.Result.{IfOk-weaker}
-use Rattle.report.specs.Reports.{IsReportText, denied, account}
+use Rattle.report.specs.Reports.{IsReportText, denied, of_project}
 use Rattle.report.specs.Projects.{Opens}
 use Rattle.report.proofs.Only.{only_report, lawful_report}
 use Rattle.report.proofs.feed_report.report.Goals as goal
@@ -8,7 +8,7 @@ use Rattle.report.proofs.feed_report.report.Goals as goal
 pub returns-in-Ok : goal.returns-in-Ok
 returns-in-Ok c =
     let feed = c.args.feed.now in
-    let value = IfOk-weaker c.project_report.result _ (λ s. IsReportText feed (string_bytes s)) (λ s a. account c.in-Ok.ensures a) c.project_report.ensures in
+    let value = IfOk-weaker c.project_report.result _ (λ s. IsReportText feed (string_bytes s)) (λ s a. of_project c.in-Ok.ensures a) c.project_report.ensures in
     record { value = value; only = only_report feed c.project_report.result value; law = lawful_report feed c.project_report.result value }
 
 pub returns-in-Err-Refused : goal.returns-in-Err-Refused

@@ -12,7 +12,7 @@ pub loop-note-smaller : goal.loop-note-smaller
 loop-note-smaller c = fewer_left c.in-Some.ensures.1
 
 pub loop-note-preserved : goal.loop-note-preserved
-loop-note-preserved c = row_more c.loop-note.invariant c.read_row.result c.in-Some.ensures c.read_row.ensures.value c.in_ok-push.ensures.items
+loop-note-preserved c = row_more c.loop-note.invariant c.read_factor_row.result c.in-Some.ensures c.read_factor_row.ensures.value c.in_ok-push.ensures.items
 
 pub returns : goal.returns
 returns c =
