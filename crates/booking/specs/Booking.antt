@@ -48,7 +48,13 @@ pub record LineNumbers : Type 0 where
   pub grams : ℕ
 
 abbrev pub line_numbers : BookedLine → LineNumbers
-line_numbers l = record { row = row_number l.row; span = l.span; code = l.code; thousandths = l.thousandths; grams = l.grams }
+line_numbers l = record {
+  row = row_number l.row;
+  span = l.span;
+  code = l.code;
+  thousandths = l.thousandths;
+  grams = l.grams;
+}
 
 -- the conditions that depend on the entry alone
 module _ (e : Entry) where
@@ -79,7 +85,8 @@ module _ (y : ℕ) (factor_map : FactorMap) (e : Entry) where
 
   -- its exact emissions are this product over this divisor
   abbrev pub entry_product : ℕ
-  entry_product = product (booked_thousandths e.quantity) (amount_of factor) (multiplier (method e.head.row) y e.head.span)
+  entry_product =
+      product (booked_thousandths e.quantity) (amount_of factor) (multiplier (method e.head.row) y e.head.span)
 
   abbrev pub entry_divisor : ℕ
   entry_divisor = exact_divisor (divisor (method e.head.row) e.head.span)
@@ -111,8 +118,16 @@ module _ (y : ℕ) (factor_map : FactorMap) (e : Entry) where
 
   -- its line, with the grams nearest to its exact emissions
   abbrev pub booked_line : LineNumbers
-  booked_line = record { row = e.head.row; span = e.head.span; code = e.head.code; thousandths = booked_thousandths e.quantity; grams = rounded_quotient entry_product entry_divisor }
+  booked_line = record {
+    row = e.head.row;
+    span = e.head.span;
+    code = e.head.code;
+    thousandths = booked_thousandths e.quantity;
+    grams = rounded_quotient entry_product entry_divisor;
+  }
 
   -- r is the result of booking it
   abbrev pub Books : Result BookedLine Refusal → Type 0
-  Books r = GivesOrRefuses booking_conditions (λ line. line_numbers line ≡ booked_line) r × IfErr r (NamesLack e.head.code factor)
+  Books r =
+      GivesOrRefuses booking_conditions (λ line. line_numbers line ≡ booked_line) r
+      × IfErr r (NamesLack e.head.code factor)

@@ -8,4 +8,5 @@ use Rattle.booking.specs.Emissions.{signed_grams}
 -- the thousandths of a line, and its grams with their sign
 abbrev pub line_text : BookedLine → List ℕ
 line_text line =
-    codes "thousandths=" ++ (decimal line.thousandths ++ (codes " grams=" ++ signed_decimal (signed_grams (is_subtracted (row_number line.row)) line.grams)))
+    let grams = signed_grams (is_subtracted (row_number line.row)) line.grams in
+    codes "thousandths=" ++ (decimal line.thousandths ++ (codes " grams=" ++ signed_decimal grams))

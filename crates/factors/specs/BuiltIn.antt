@@ -19,5 +19,6 @@ abbrev pub built_in_map : FactorMap
 built_in_map c =
     if c == 1 then has (factor_per 5000 (unit_number KilowattHour))
     else (if nat_lt c 101 then lacks c
-    else (if nat_lt (c - 101) (length warming_potentials) then has (factor_per (slice_index warming_potentials (c - 101) * 10000) (unit_number Kilogram))
+    else (if nat_lt (c - 101) (length warming_potentials)
+    then has (factor_per (slice_index warming_potentials (c - 101) * 10000) (unit_number Kilogram))
     else lacks c))

@@ -34,7 +34,11 @@ quantity_offset = code_offset + 4
 
 -- the row, span and code in the note of an entry
 abbrev pub entry_head_of_note : List ℕ → EntryHead
-entry_head_of_note note = record { row = field note row_offset 2; span = field note span_offset 2; code = field note code_offset 4 }
+entry_head_of_note note = record {
+  row = field note row_offset 2;
+  span = field note span_offset 2;
+  code = field note code_offset 4;
+}
 
 -- the quantity in a note of this kind, if the kind has one; the kind decides the form
 abbrev pub kind_quantity : Option Kind → List ℕ → Option SentQuantity

@@ -73,7 +73,8 @@ HandsOutFactorRow r None t = (StartsWithFactorRow (rest_of r) → ⊥) × (t ≡
 -- the calls of one reader of the feed since it was made: their results, the latest first, and the reader after them
 pub data ReaderHistory (feed : List ℕ) : List ReaderAnswer → Reader → Type 0 where
   opened : {r : Reader} → IsNewReader feed r → ReaderHistory feed [] r
-  called : {before : List ReaderAnswer} {r t : Reader} {a : ReaderAnswer} → ReaderHistory feed before r → AnswersNext r a t → ReaderHistory feed (a ∷ before) t
+  called : {before : List ReaderAnswer} {r t : Reader} {a : ReaderAnswer} → ReaderHistory feed before r
+      → AnswersNext r a t → ReaderHistory feed (a ∷ before) t
 
 -- the notes among the results, in the order in which they were handed out
 abbrev pub handed_parts : List ReaderAnswer → List Part
@@ -116,4 +117,5 @@ pub record IsLawfulReader (feed : List ℕ) (answers : List ReaderAnswer) (rest 
 -- a reader that was r gives the answer a and is t then: with any calls that led to r, this call keeps the law
 abbrev pub KeepsReaderLaw : Reader → ReaderAnswer → Reader → Type 0
 KeepsReaderLaw r a t =
-    (feed : List ℕ) (before : List ReaderAnswer) → ReaderHistory feed before r → IsLawfulReader feed (a ∷ before) (rest_of t)
+    (feed : List ℕ) (before : List ReaderAnswer) → ReaderHistory feed before r
+    → IsLawfulReader feed (a ∷ before) (rest_of t)

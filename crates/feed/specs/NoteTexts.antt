@@ -32,7 +32,9 @@ kind_text kind fields = kind_word kind ++ (codes " " ++ fields_text fields)
 
 -- the text of a note that is sent: its number and its revision come first
 abbrev pub sent_note_text : SentNote → List ℕ
-sent_note_text s = kind_text (content_kind s.content) ((codes "number", s.number) ∷ (codes "revision", s.revision) ∷ content_fields s.content)
+sent_note_text s =
+    kind_text (content_kind s.content)
+    ((codes "number", s.number) ∷ (codes "revision", s.revision) ∷ content_fields s.content)
 
 -- the text of a note of any kind
 abbrev pub note_text : Note → List ℕ

@@ -19,7 +19,8 @@ pub record OpensWith (feed : List ℕ) (b : Building) (notes : List (List ℕ)) 
 
 -- the feed opens with the building b; reading the factor rows after it gives these results; and rest is a reader of the
 -- feed that has handed out exactly the building and these rows
-pub record IsOpening (feed : List ℕ) (b : Building) (answers : List (Result FactorRow Refusal)) (rest : Reader) : Type 0 where
+pub record IsOpening (feed : List ℕ) (b : Building) (answers : List (Result FactorRow Refusal)) (rest : Reader)
+    : Type 0 where
   pub notes : List (List ℕ)
   pub opens : OpensWith feed b notes (rest_of rest)
   pub read : ReadsEachRow notes answers

@@ -35,7 +35,8 @@ form_conditions Wanted kind note =
 
 -- the conditions on bytes from which a note is read; Wanted holds of the kinds that are read
 abbrev pub reading_conditions : (Kind → Type 0) → List ℕ → Conditions
-reading_conditions Wanted bs = framing_conditions bs ++ form_conditions Wanted (kind_of_note (first_note bs)) (first_note bs)
+reading_conditions Wanted bs =
+    framing_conditions bs ++ form_conditions Wanted (kind_of_note (first_note bs)) (first_note bs)
 
 -- r is the result of reading the first note of bs; Value says which value a note gives
 abbrev pub Reads : {X : Type 0} → (Kind → Type 0) → (List ℕ → X → Type 0) → List ℕ → Result X Refusal → Type 0

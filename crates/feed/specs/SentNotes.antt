@@ -26,7 +26,11 @@ content_of None note = Withdrawal
 
 -- a note that is sent: its number, its revision and its content
 abbrev pub sent_note_of : List ℕ → SentNote
-sent_note_of note = record { number = field note number_offset 4; revision = field note revision_offset 4; content = content_of (kind_quantity (kind_of_note note) note) note }
+sent_note_of note = record {
+  number = field note number_offset 4;
+  revision = field note revision_offset 4;
+  content = content_of (kind_quantity (kind_of_note note) note) note;
+}
 
 -- the note is of a kind that is sent, and says s
 abbrev pub SaysSentNote : List ℕ → SentNote → Type 0

@@ -20,12 +20,14 @@ entry_of row span code thousandths =
 
 -- the entry can be booked, in a building with a life of y years, at the given grams
 abbrev pub ComesTo : ℕ → FactorMap → Entry → ℕ → Type 0
-ComesTo y factor_map e grams = AllHold (booking_conditions y factor_map e) × ((booked_line y factor_map e).grams ≡ grams)
+ComesTo y factor_map e grams =
+    AllHold (booking_conditions y factor_map e) × ((booked_line y factor_map e).grams ≡ grams)
 
 -- the binary64 number nearest to n / d is booked at the given thousandths
 abbrev pub Measures : (n d thousandths : ℕ) → Type 0
 Measures n d thousandths =
-    IsQuantityInRange (Measured (round binary64 false n d)) × (booked_thousandths (Measured (round binary64 false n d)) ≡ thousandths)
+    let quantity = Measured (round binary64 false n d) in
+    IsQuantityInRange quantity × (booked_thousandths quantity ≡ thousandths)
 
 -- a thousandth of a tonne at factors of 5,000 and 4,999; 0.0625 and 0.0624 measured; a kilogram of R-134a in equipment
 -- that lasts 15 years; 30 tonnes over 500 kilometres at a factor of 1,290; recycled material where the new one has a

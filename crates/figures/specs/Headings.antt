@@ -17,4 +17,5 @@ one_in_each_row grams = record {
 
 -- a page by row prints the given kilograms for the given grams, and nothing for the other rows
 abbrev pub Prints : (grams kilograms : List ℤ) → Type 0
-Prints grams kilograms = map (λ f. f.kilograms) (page_figures by_row (one_in_each_row grams)) ≡ in_rows (pos 0) kilograms
+Prints grams kilograms =
+    map (λ f. f.kilograms) (page_figures by_row (one_in_each_row grams)) ≡ in_rows (pos 0) kilograms

@@ -25,7 +25,8 @@ pub record IsSentAs (y : ℕ) (factor_map : FactorMap) (note : RollNote) (bs : L
 -- a sheet that was just opened lets the withdrawal in, and then refuses any fit entry at this revision by the number n
 abbrev pub IsRefusedBy : (revision n : ℕ) → Type 0
 IsRefusedBy revision n =
-    (b : BuildingNumbers) (factor_map : FactorMap) (e : Entry) (gone late : List ℕ) (s t : State) (r : Result (Unit {0}) Refusal)
+    (b : BuildingNumbers) (factor_map : FactorMap) (e : Entry) (gone late : List ℕ) (s t : State)
+    (r : Result (Unit {0}) Refusal)
     → IsSentAs b.life factor_map withdrawal gone → Sends (new_state b factor_map) gone (Ok tt) s
     → IsSentAs b.life factor_map (entry_at revision e) late → Sends s late r t
     → IsErrAnd r (λ f. refusal_number f ≡ n)
@@ -41,5 +42,6 @@ NoneCounts revision =
 abbrev pub CountsAt : (late revision : ℕ) → Type 0
 CountsAt l revision =
     (y : ℕ) (factor_map : FactorMap) (e new : Entry) (gone late next : List ℕ)
-    → IsSentAs y factor_map withdrawal gone → IsSentAs y factor_map (entry_at l e) late → IsSentAs y factor_map (entry_at revision new) next
+    → IsSentAs y factor_map withdrawal gone → IsSentAs y factor_map (entry_at l e) late
+    → IsSentAs y factor_map (entry_at revision new) next
     → AreCounted y factor_map (next ∷ (late ∷ (gone ∷ []))) (new ∷ [])

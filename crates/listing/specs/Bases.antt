@@ -13,8 +13,10 @@ use Rattle.feed.specs.FactorRows.{ReadsEachRow}
 -- the factor rows that can be read from notes; refused ones are passed over
 pub data KeepsFitRows : List (List ℕ) → List FactorRow → Type 0 where
   none : KeepsFitRows [] []
-  row : {note : List ℕ} {notes : List (List ℕ)} {r : FactorRow} {rows : List FactorRow} → ReadsFactorRow note (Ok r) → KeepsFitRows notes rows → KeepsFitRows (note ∷ notes) (r ∷ rows)
-  passed : {note : List ℕ} {notes : List (List ℕ)} {rows : List FactorRow} (f : Refusal) → ReadsFactorRow note (Err f) → KeepsFitRows notes rows → KeepsFitRows (note ∷ notes) rows
+  row : {note : List ℕ} {notes : List (List ℕ)} {r : FactorRow} {rows : List FactorRow} → ReadsFactorRow note (Ok r)
+      → KeepsFitRows notes rows → KeepsFitRows (note ∷ notes) (r ∷ rows)
+  passed : {note : List ℕ} {notes : List (List ℕ)} {rows : List FactorRow} (f : Refusal) → ReadsFactorRow note (Err f)
+      → KeepsFitRows notes rows → KeepsFitRows (note ∷ notes) rows
 
 -- rows are those among the answers to reading notes as factor rows
 abbrev pub KeepsFitAnswers : List (Result FactorRow Refusal) → List FactorRow → Type 0
@@ -23,7 +25,8 @@ KeepsFitAnswers answers rows = (notes : List (List ℕ)) → ReadsEachRow notes 
 -- a feed begins with its building and the factor rows straight after it, or, where its first note is no building, with
 -- neither
 pub data BeginsWith (feed : List ℕ) : Option Building → List FactorRow → Type 0 where
-  building : {rows : List FactorRow} {notes : List (List ℕ)} {left : List ℕ} (b : Building) → OpensWith feed b notes left → KeepsFitRows notes rows → BeginsWith feed (Some b) rows
+  building : {rows : List FactorRow} {notes : List (List ℕ)} {left : List ℕ} (b : Building)
+      → OpensWith feed b notes left → KeepsFitRows notes rows → BeginsWith feed (Some b) rows
   no_building : ((b : Building) → ReadsBuilding feed (Ok b) → ⊥) → BeginsWith feed None []
 
 -- the basis of booking: the building's life in years and the factors, if there is a building

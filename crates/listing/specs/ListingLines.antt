@@ -28,7 +28,9 @@ kind_word_or_unknown None = codes "unknown"
 
 -- the text of a refused note: its kind, its length and the refusal
 abbrev pub refused_note_text : ℕ → ℕ → Refusal → List ℕ
-refused_note_text k n f = kind_word_or_unknown (kind_of k) ++ (spaced_field (codes "kind", k) ++ (spaced_field (codes "length", n) ++ (codes " " ++ refusal_text f)))
+refused_note_text k n f =
+    kind_word_or_unknown (kind_of k)
+    ++ (spaced_field (codes "kind", k) ++ (spaced_field (codes "length", n) ++ (codes " " ++ refusal_text f)))
 
 -- the text of the given number of bytes, which frame no note
 abbrev pub unframed_text : ℕ → Refusal → List ℕ

@@ -21,7 +21,8 @@ IsLastPartLine a p line = IsLastLine a p.place p.start (part_bytes p) line
 -- the listing, on a basis, of the bytes at the place k, with `at` bytes of the feed before them: a line for each note,
 -- and the last line
 pub data Lists (a : Basis) : ℕ → ℕ → List ℕ → List ℕ → Type 0 where
-  note : {k at : ℕ} {bs text : List ℕ} (n rest line more : List ℕ) → IsOneNote n → bs ≡ n ++ rest → IsLine a k at n line → Lists a (k + 1) (at + length n) rest more → text ≡ line ++ more → Lists a k at bs text
+  note : {k at : ℕ} {bs text : List ℕ} (n rest line more : List ℕ) → IsOneNote n → bs ≡ n ++ rest
+      → IsLine a k at n line → Lists a (k + 1) (at + length n) rest more → text ≡ line ++ more → Lists a k at bs text
   last : {k at : ℕ} {bs text : List ℕ} → (IsFramed bs → ⊥) → IsLastLine a k at bs text → Lists a k at bs text
 
 -- the listing of a feed, with its entries booked by what it begins with

@@ -15,7 +15,10 @@ whole_kilograms grams = nearest_whole (over grams 1000)
 
 -- the sums over any choice of headings
 abbrev pub heading_sums : Assignment → Sums → Sums
-heading_sums cut sums = record { grams = λ choice. sums.grams (λ row. choice (cut.heading row)); counts = λ choice. sums.counts (λ row. choice (cut.heading row)) }
+heading_sums cut sums = record {
+  grams = λ choice. sums.grams (λ row. choice (cut.heading row));
+  counts = λ choice. sums.counts (λ row. choice (cut.heading row));
+}
 
 -- the grams under the headings 1 to k
 abbrev pub running_sum : Assignment → Sums → ℕ → ℤ
@@ -46,7 +49,8 @@ Leaves cut sums before (Ok total) after = after ≡ page_figures cut sums ++ dro
 Leaves cut sums before (Err f) after = after ≡ before
 
 -- writing a page returns r, and changes the places from `before` to `after`
-pub record Writes (cut : Assignment) (sums : Sums) (before : List Figure) (r : Result Figure Refusal) (after : List Figure) : Type 0 where
+pub record Writes (cut : Assignment) (sums : Sums) (before : List Figure) (r : Result Figure Refusal)
+    (after : List Figure) : Type 0 where
   pub answer : GivesOrRefuses (room_conditions cut before) (λ total. total ≡ total_figure sums) r
   pub places : Leaves cut sums before r after
 
@@ -77,4 +81,5 @@ pub record IsNearGrams (kg g : ℤ) : Type 0 where
 abbrev pub NeighboursAreNear : Assignment → Sums → Type 0
 NeighboursAreNear cut sums =
     (i j : ℕ) → i ≤ j → j ≤ cut.size
-    → IsNearGrams (printed_kilograms (figures_between i j (page_figures cut sums))) ((heading_sums cut sums).grams (is_between i j))
+    → IsNearGrams (printed_kilograms (figures_between i j (page_figures cut sums)))
+        ((heading_sums cut sums).grams (is_between i j))

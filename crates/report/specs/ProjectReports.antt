@@ -19,11 +19,13 @@ use Rattle.report.specs.Projects.{ProjectParts}
 pub data SplitsIntoSends : List ℕ → List (List ℕ) → Type 0 where
   ended : {bs : List ℕ} → bs ≡ [] → SplitsIntoSends bs []
   unframed : {bs : List ℕ} → 0 < length bs → (IsFramed bs → ⊥) → SplitsIntoSends bs (bs ∷ [])
-  note : {bs : List ℕ} {more : List (List ℕ)} (n rest : List ℕ) → IsOneNote n → bs ≡ n ++ rest → SplitsIntoSends rest more → SplitsIntoSends bs (n ∷ more)
+  note : {bs : List ℕ} {more : List (List ℕ)} (n rest : List ℕ) → IsOneNote n → bs ≡ n ++ rest
+      → SplitsIntoSends rest more → SplitsIntoSends bs (n ∷ more)
 
 -- all of the bytes are sent into a sheet that was just opened: t is its state then, and this text is written. The
 -- latest answers stand first
-pub record SendsAll (b : BuildingNumbers) (factor_map : FactorMap) (bs : List ℕ) (t : State) (text : List ℕ) : Type 0 where
+pub record SendsAll (b : BuildingNumbers) (factor_map : FactorMap) (bs : List ℕ) (t : State) (text : List ℕ)
+    : Type 0 where
   pub sends : List (List ℕ)
   pub sent : SplitsIntoSends bs sends
   pub answered : List (List ℕ × Result (Unit {0}) Refusal)
@@ -45,7 +47,8 @@ pub record IsProjectReport (c : ProjectParts) (text : List ℕ) : Type 0 where
   pub total : Figure
   pub grade : ℕ
   pub calls : SendsThenDraws c.building (project_map c.rows) sends by_stage places (Ok total) after grade
-  pub written : text ≡ history_text (grade_event grade ∷ (page_event by_stage places (Ok total) after ∷ send_events calls.answered))
+  pub written : text ≡ history_text
+      (grade_event grade ∷ (page_event by_stage places (Ok total) after ∷ send_events calls.answered))
 
 -- a report ends with a lawful page and a lawful grade; `IsProjectReport` says what comes before them
 pub record EndsLawfully (c : ProjectParts) (text : List ℕ) : Type 0 where

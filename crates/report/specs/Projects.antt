@@ -23,7 +23,8 @@ size_conditions feed = (refusal_number FeedTooLong, length feed ≤ 65536) ∷ [
 
 -- the conditions of reading a note as a factor row, after n others
 abbrev pub row_conditions : ℕ → List ℕ → Conditions
-row_conditions n note = reading_conditions (λ kind. kind ≡ FactorNote) note ++ ((refusal_number TooManyRows, n < 256) ∷ [])
+row_conditions n note =
+    reading_conditions (λ kind. kind ≡ FactorNote) note ++ ((refusal_number TooManyRows, n < 256) ∷ [])
 
 -- reading it returns r
 abbrev pub ReadsRow : ℕ → List ℕ → Result FactorRow Refusal → Type 0
@@ -41,16 +42,22 @@ project_parts building rows notes = record { building = building; rows = rows; n
 -- reading notes as the rows after these, in order, gives all rows, or the refusal of the first that is refused
 pub data TakesRows : List FactorRow → List (List ℕ) → Result (List FactorRow) Refusal → Type 0 where
   all : {rows : List FactorRow} → TakesRows rows [] (Ok rows)
-  row : {rows : List FactorRow} {note : List ℕ} {notes : List (List ℕ)} {end : Result (List FactorRow) Refusal} (r : FactorRow) → ReadsRow (length rows) note (Ok r) → TakesRows (rows ++ (r ∷ [])) notes end → TakesRows rows (note ∷ notes) end
-  refused : {rows : List FactorRow} {note : List ℕ} {notes : List (List ℕ)} {f : Refusal} → ReadsRow (length rows) note (Err f) → TakesRows rows (note ∷ notes) (Err f)
+  row : {rows : List FactorRow} {note : List ℕ} {notes : List (List ℕ)} {end : Result (List FactorRow) Refusal}
+      (r : FactorRow) → ReadsRow (length rows) note (Ok r) → TakesRows (rows ++ (r ∷ [])) notes end
+      → TakesRows rows (note ∷ notes) end
+  refused : {rows : List FactorRow} {note : List ℕ} {notes : List (List ℕ)} {f : Refusal}
+      → ReadsRow (length rows) note (Err f) → TakesRows rows (note ∷ notes) (Err f)
 
 -- a feed opens with a project, or is refused before anything is sent: it is too long, its first note is no building, or
 -- a factor row after that is refused
 pub data Opens (feed : List ℕ) : Result ProjectParts Refusal → Type 0 where
   too_long : {f : Refusal} → IsLeastFailing (size_conditions feed) (refusal_number f) → Opens feed (Err f)
   no_building : {f : Refusal} → AllHold (size_conditions feed) → ReadsBuilding feed (Err f) → Opens feed (Err f)
-  row_refused : {b : Building} {notes : List (List ℕ)} {left : List ℕ} {f : Refusal} → AllHold (size_conditions feed) → OpensWith feed b notes left → TakesRows [] notes (Err f) → Opens feed (Err f)
-  project : {b : Building} {notes : List (List ℕ)} {left : List ℕ} {rows : List FactorRow} → AllHold (size_conditions feed) → OpensWith feed b notes left → TakesRows [] notes (Ok rows) → Opens feed (Ok (project_parts (numbers_of b) rows left))
+  row_refused : {b : Building} {notes : List (List ℕ)} {left : List ℕ} {f : Refusal} → AllHold (size_conditions feed)
+      → OpensWith feed b notes left → TakesRows [] notes (Err f) → Opens feed (Err f)
+  project : {b : Building} {notes : List (List ℕ)} {left : List ℕ} {rows : List FactorRow}
+      → AllHold (size_conditions feed) → OpensWith feed b notes left → TakesRows [] notes (Ok rows)
+      → Opens feed (Ok (project_parts (numbers_of b) rows left))
 
 -- the parts of a project
 abbrev pub parts_of_project : Project → ProjectParts

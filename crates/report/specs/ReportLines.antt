@@ -11,7 +11,8 @@ denied_line place f = codes "denied " ++ (decimal place ++ (codes " " ++ (decima
 
 -- a heading's kilograms and the number of its entries
 abbrev pub figure_line : List ℕ → Figure → List ℕ
-figure_line heading f = heading ++ (codes " " ++ (signed_decimal f.kilograms ++ (codes " " ++ (decimal f.count ++ codes "\n"))))
+figure_line heading f =
+    heading ++ (codes " " ++ (signed_decimal f.kilograms ++ (codes " " ++ (decimal f.count ++ codes "\n"))))
 
 -- a line for each heading, the first of them with the number k
 abbrev pub heading_lines : ℕ → List Figure → List ℕ

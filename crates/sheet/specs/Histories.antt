@@ -11,7 +11,8 @@ use Rattle.sheet.specs.LineSums.{held_lines, sums_of_lines}
 use Rattle.sheet.specs.States.{State, new_state, Sends}
 
 -- a page by a cut is drawn from the sheet s: it returns r, and changes the places from `before` to `after`
-pub record DrawsPage (s : State) (cut : Assignment) (before : List Figure) (r : Result Figure Refusal) (after : List Figure) : Type 0 where
+pub record DrawsPage (s : State) (cut : Assignment) (before : List Figure) (r : Result Figure Refusal)
+    (after : List Figure) : Type 0 where
   pub lawful : IsCut cut
   pub writes : Writes cut (sums_of_lines (held_lines s.places)) before r after
 
@@ -28,9 +29,13 @@ pub data Event : Type 0 where
 -- the calls, the latest first, of a sheet that was opened over a building and a source's map, and the state after them
 pub data History (b : BuildingNumbers) (factor_map : FactorMap) : List Event → State → Type 0 where
   new : History b factor_map [] (new_state b factor_map)
-  send : {before : List Event} {s t : State} {bs : List ℕ} {r : Result (Unit {0}) Refusal} → History b factor_map before s → Sends s bs r t → History b factor_map (send_event bs r ∷ before) t
-  page : {before : List Event} {s : State} {cut : Assignment} {places after : List Figure} {r : Result Figure Refusal} → History b factor_map before s → DrawsPage s cut places r after → History b factor_map (page_event cut places r after ∷ before) s
-  grade : {before : List Event} {s : State} {n : ℕ} → History b factor_map before s → GivesGrade s n → History b factor_map (grade_event n ∷ before) s
+  send : {before : List Event} {s t : State} {bs : List ℕ} {r : Result (Unit {0}) Refusal}
+      → History b factor_map before s → Sends s bs r t → History b factor_map (send_event bs r ∷ before) t
+  page : {before : List Event} {s : State} {cut : Assignment} {places after : List Figure} {r : Result Figure Refusal}
+      → History b factor_map before s → DrawsPage s cut places r after
+      → History b factor_map (page_event cut places r after ∷ before) s
+  grade : {before : List Event} {s : State} {n : ℕ} → History b factor_map before s → GivesGrade s n
+      → History b factor_map (grade_event n ∷ before) s
 
 -- the bytes that were sent, refused or not, the latest first
 abbrev pub sent_bytes : List Event → List (List ℕ)

@@ -20,14 +20,18 @@ pub record IsNear (kg : ℤ) (n : ℕ) (x : Fraction) : Type 0 where
 
 -- a lawful page by a cut: its figures, one for each heading, and its total, after these sends (the latest first), in a
 -- building with a life of y years, at the factors of a map
-pub record IsLawfulPage (y : ℕ) (factor_map : FactorMap) (bytes : List (List ℕ)) (cut : Assignment) (figures : List Figure) (total : Figure) : Type 0 where
+pub record IsLawfulPage (y : ℕ) (factor_map : FactorMap) (bytes : List (List ℕ)) (cut : Assignment)
+    (figures : List Figure) (total : Figure) : Type 0 where
   -- the highest revisions count, and nothing else: the figures are those of the entries that are counted
   pub entries : List Entry
   pub counts : AreCounted y factor_map bytes entries
   pub headings : figures ≡ page_figures cut (booked_sums y factor_map entries)
   pub totals : total ≡ total_figure (booked_sums y factor_map entries)
   -- any neighbouring headings are near the exact sum of the entries under them, which is of booked thousandths
-  pub near : (i j : ℕ) → i ≤ j → j ≤ cut.size → IsNear (printed_kilograms (figures_between i j figures)) ((heading_sums cut (booked_sums y factor_map entries)).counts (is_between i j)) (exact_sum_in y factor_map (λ row. is_between i j (cut.heading row)) entries)
+  pub near : (i j : ℕ) → i ≤ j → j ≤ cut.size
+      → IsNear (printed_kilograms (figures_between i j figures))
+          ((heading_sums cut (booked_sums y factor_map entries)).counts (is_between i j))
+          (exact_sum_in y factor_map (λ row. is_between i j (cut.heading row)) entries)
   -- the headings add to the total
   pub adds : AddUp figures total
 
@@ -40,7 +44,8 @@ NoneAccepted (page_event cut places r after ∷ calls) = NoneAccepted calls
 NoneAccepted (grade_event n ∷ calls) = NoneAccepted calls
 
 -- a lawful grade after these sends, the latest first: that of the entries that are counted, by their booked grams
-pub record IsLawfulGrade (b : BuildingNumbers) (factor_map : FactorMap) (bytes : List (List ℕ)) (grade : ℕ) : Type 0 where
+pub record IsLawfulGrade (b : BuildingNumbers) (factor_map : FactorMap) (bytes : List (List ℕ)) (grade : ℕ)
+    : Type 0 where
   pub entries : List Entry
   pub counts : AreCounted b.life factor_map bytes entries
   pub awarded : IsAwarded b (energy_emissions (booked_sums b.life factor_map entries)) grade
@@ -48,11 +53,17 @@ pub record IsLawfulGrade (b : BuildingNumbers) (factor_map : FactorMap) (bytes :
 -- the law over the calls of one sheet, the latest first
 pub record IsLawful (b : BuildingNumbers) (factor_map : FactorMap) (history : List Event) : Type 0 where
   -- every page that is not refused is lawful
-  pub pages : (later before : List Event) (cut : Assignment) (total : Figure) (places after : List Figure) → history ≡ later ++ (page_event cut places (Ok total) after ∷ before) → IsLawfulPage b.life factor_map (sent_bytes before) cut (take cut.size after) total
+  pub pages : (later before : List Event) (cut : Assignment) (total : Figure) (places after : List Figure)
+      → history ≡ later ++ (page_event cut places (Ok total) after ∷ before)
+      → IsLawfulPage b.life factor_map (sent_bytes before) cut (take cut.size after) total
   -- pages with no accepted send between them have the same total, by any cuts
-  pub steady : (later middle before : List Event) (cut cut' : Assignment) (total total' : Figure) (places after places' after' : List Figure) → history ≡ later ++ (page_event cut places (Ok total) after ∷ middle ++ (page_event cut' places' (Ok total') after' ∷ before)) → NoneAccepted middle → total ≡ total'
+  pub steady : (later middle before : List Event) (cut cut' : Assignment) (total total' : Figure)
+      (places after places' after' : List Figure) → history ≡ later
+      ++ (page_event cut places (Ok total) after ∷ middle ++ (page_event cut' places' (Ok total') after' ∷ before))
+      → NoneAccepted middle → total ≡ total'
   -- every grade is lawful
-  pub grades : (later before : List Event) (grade : ℕ) → history ≡ later ++ (grade_event grade ∷ before) → IsLawfulGrade b factor_map (sent_bytes before) grade
+  pub grades : (later before : List Event) (grade : ℕ) → history ≡ later ++ (grade_event grade ∷ before)
+      → IsLawfulGrade b factor_map (sent_bytes before) grade
 
 -- whatever calls led to the sheet s, the law holds of them and of the call e after them
 abbrev pub KeepsLaw : State → Event → Type 0

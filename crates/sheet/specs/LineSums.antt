@@ -21,7 +21,10 @@ row_count l = (l.row, 1)
 
 -- the sums of lines over any choice of rows: their grams and their number
 abbrev pub sums_of_lines : List LineNumbers → Sums
-sums_of_lines ls = record { grams = λ choice. grams_in choice (map row_grams ls); counts = λ choice. count_in choice (map row_count ls) }
+sums_of_lines ls = record {
+  grams = λ choice. grams_in choice (map row_grams ls);
+  counts = λ choice. count_in choice (map row_count ls);
+}
 
 -- the line, if its grams are in range
 abbrev pub line_in_range : Option LineNumbers → Option LineNumbers
@@ -40,7 +43,9 @@ module _ (y : ℕ) (factor_map : FactorMap) where
 
   -- an entry's row, and its exact grams of booked thousandths, as they count there
   abbrev pub exact_emissions : Entry → ℕ × Fraction
-  exact_emissions e = (e.head.row, if is_subtracted e.head.row then fraction_negation (exact_grams y factor_map e) else exact_grams y factor_map e)
+  exact_emissions e =
+      let grams = exact_grams y factor_map e in
+      (e.head.row, if is_subtracted e.head.row then fraction_negation grams else grams)
 
   -- the exact sum of the entries in chosen rows
   abbrev pub exact_sum_in : (ℕ → Bool) → List Entry → Fraction

@@ -16,7 +16,13 @@ pub record PlaceNumbers : Type 0 where
 
 -- a record by its numbers
 abbrev pub record_numbers : Record → LineNumbers
-record_numbers r = record { row = row_number r.row; span = r.span; code = r.code; thousandths = r.thousandths; grams = r.grams }
+record_numbers r = record {
+  row = row_number r.row;
+  span = r.span;
+  code = r.code;
+  thousandths = r.thousandths;
+  grams = r.grams;
+}
 
 -- the line of a place's content, if it is an entry
 abbrev pub content_line : PlaceContent → Option LineNumbers

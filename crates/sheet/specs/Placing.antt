@@ -24,7 +24,8 @@ place_under k (t ∷ ts) = if t.number == k then Some t else place_under k ts
 -- `new` is ahead of what its number holds: this has no higher revision, and not the same revision with an equal line
 abbrev pub IsNotSuperseded : PlaceNumbers → Option PlaceNumbers → Type 0
 IsNotSuperseded new None = Unit {0}
-IsNotSuperseded new (Some old) = (new.revision < old.revision → ⊥) × (new.revision ≡ old.revision → EqualLines new.line old.line → ⊥)
+IsNotSuperseded new (Some old) =
+    (new.revision < old.revision → ⊥) × (new.revision ≡ old.revision → EqualLines new.line old.line → ⊥)
 
 -- `new` agrees with what its number holds: where the revisions are the same, the lines are equal
 abbrev pub Agrees : PlaceNumbers → Option PlaceNumbers → Type 0
@@ -33,7 +34,8 @@ Agrees new (Some old) = new.revision ≡ old.revision → EqualLines new.line ol
 
 -- the conditions on what is held under the number
 abbrev pub replacing_conditions : PlaceNumbers → Option PlaceNumbers → Conditions
-replacing_conditions new old = (refusal_number Superseded, IsNotSuperseded new old) ∷ (refusal_number Contradicted, Agrees new old) ∷ []
+replacing_conditions new old =
+    (refusal_number Superseded, IsNotSuperseded new old) ∷ (refusal_number Contradicted, Agrees new old) ∷ []
 
 -- r says whether a line may replace the one that is held under its number
 abbrev pub MayReplace : PlaceNumbers → PlaceNumbers → Result (Unit {0}) Refusal → Type 0
@@ -50,7 +52,9 @@ HasRoom ks k = IsAmong k ks ⊎ (length ks < max_count)
 
 -- the conditions of putting a place into a book
 abbrev pub placing_conditions : List PlaceNumbers → PlaceNumbers → Conditions
-placing_conditions held new = replacing_conditions new (place_under new.number held) ++ ((refusal_number BookFull, HasRoom (map (λ t. t.number) held) new.number) ∷ [])
+placing_conditions held new =
+    replacing_conditions new (place_under new.number held)
+    ++ ((refusal_number BookFull, HasRoom (map (λ t. t.number) held) new.number) ∷ [])
 
 -- the places with `new` put in: over the place of its number, or after the last
 abbrev pub places_with : PlaceNumbers → List PlaceNumbers → List PlaceNumbers
@@ -60,6 +64,7 @@ places_with new (t ∷ ts) = if t.number == new.number then new ∷ ts else t �
 -- putting `new` into a book returns r, and changes the book from `before` to `after`: in one place, or, refused, in
 -- none
 pub record Puts (new : Place) (before : Book) (r : Result (Unit {0}) Refusal) (after : Book) : Type 0 where
-  pub answer : GivesOrRefuses (placing_conditions (book_places before) (place_numbers new)) (λ _. book_places after ≡ places_with (place_numbers new) (book_places before)) r
+  pub answer : GivesOrRefuses (placing_conditions (book_places before) (place_numbers new))
+      (λ _. book_places after ≡ places_with (place_numbers new) (book_places before)) r
   pub one : IfOk r (λ _. ChangesOnePlace new before after)
   pub refused : IfErr r (λ _. after ≡ before)

@@ -38,7 +38,11 @@ module _ (y : ℕ) (factor_map : FactorMap) where
 
   -- the place that a note takes
   abbrev pub note_place : RollNote → PlaceNumbers
-  note_place n = record { number = n.number; revision = n.revision; line = option_map (booked_line y factor_map) n.entry }
+  note_place n = record {
+    number = n.number;
+    revision = n.revision;
+    line = option_map (booked_line y factor_map) n.entry;
+  }
 
   -- r is the place that a note takes, or why its entry is unfit
   abbrev pub GivesPlace : RollNote → Result Place Refusal → Type 0

@@ -33,9 +33,12 @@ module _ (y : ℕ) (factor_map : FactorMap) where
   -- are listed
   pub data IsRoll : List (List ℕ) → List RollNote → Type 0 where
     empty : IsRoll [] []
-    unfit : {sends : List (List ℕ)} {roll : List RollNote} (bs : List ℕ) → IsRoll sends roll → IsUnfit bs → IsRoll (bs ∷ sends) roll
-    without_room : {sends : List (List ℕ)} {roll : List RollNote} (bs : List ℕ) → IsRoll sends roll → (IsUnfit bs → ⊥) → (HasRoom (numbers roll) (note_of_bytes bs).number → ⊥) → IsRoll (bs ∷ sends) roll
-    on_roll : {sends : List (List ℕ)} {roll : List RollNote} (bs : List ℕ) → IsRoll sends roll → (IsUnfit bs → ⊥) → HasRoom (numbers roll) (note_of_bytes bs).number → IsRoll (bs ∷ sends) (note_of_bytes bs ∷ roll)
+    unfit : {sends : List (List ℕ)} {roll : List RollNote} (bs : List ℕ) → IsRoll sends roll → IsUnfit bs
+        → IsRoll (bs ∷ sends) roll
+    without_room : {sends : List (List ℕ)} {roll : List RollNote} (bs : List ℕ) → IsRoll sends roll → (IsUnfit bs → ⊥)
+        → (HasRoom (numbers roll) (note_of_bytes bs).number → ⊥) → IsRoll (bs ∷ sends) roll
+    on_roll : {sends : List (List ℕ)} {roll : List RollNote} (bs : List ℕ) → IsRoll sends roll → (IsUnfit bs → ⊥)
+        → HasRoom (numbers roll) (note_of_bytes bs).number → IsRoll (bs ∷ sends) (note_of_bytes bs ∷ roll)
 
 -- n decides for the number k: it is listed under k, no note under k has a higher revision, and no earlier one has the
 -- same
@@ -50,7 +53,8 @@ pub record Decides (roll : List RollNote) (k : ℕ) (n : RollNote) : Type 0 wher
 -- these notes decide for these numbers, one for each
 pub data AllDecide (roll : List RollNote) : List ℕ → List RollNote → Type 0 where
   none : AllDecide roll [] []
-  one : {k : ℕ} {ks : List ℕ} {n : RollNote} {ns : List RollNote} → Decides roll k n → AllDecide roll ks ns → AllDecide roll (k ∷ ks) (n ∷ ns)
+  one : {k : ℕ} {ks : List ℕ} {n : RollNote} {ns : List RollNote} → Decides roll k n → AllDecide roll ks ns
+      → AllDecide roll (k ∷ ks) (n ∷ ns)
 
 -- the entries among notes
 abbrev pub entries_of : List RollNote → List Entry

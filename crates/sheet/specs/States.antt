@@ -22,7 +22,11 @@ pub record State : Type 0 where
 
 -- the state of a sheet, by the map of its source
 abbrev pub state_of : {S : Type 0} → (S → FactorMap) → Sheet S → State
-state_of map_of s = record { building = numbers_of s.building; factor_map = map_of s.source; places = book_places s.book }
+state_of map_of s = record {
+  building = numbers_of s.building;
+  factor_map = map_of s.source;
+  places = book_places s.book;
+}
 
 -- one place of the book is changed, and nothing else of the sheet
 pub record ChangesPlaceOnly {S : Type 0} (before after : Sheet S) : Type 0 where
@@ -37,7 +41,8 @@ new_state building factor_map = record { building = building; factor_map = facto
 
 -- the conditions on the content of sent bytes, in a building with a life of y years, at the factors of a map
 abbrev pub content_conditions : ℕ → FactorMap → List ℕ → Conditions
-content_conditions y factor_map bs = reading_conditions IsSent bs ++ entry_conditions y factor_map (roll_note (first_note bs)).entry
+content_conditions y factor_map bs =
+    reading_conditions IsSent bs ++ entry_conditions y factor_map (roll_note (first_note bs)).entry
 
 -- the place that the first note of the bytes takes
 abbrev pub sent_place : State → List ℕ → PlaceNumbers
@@ -49,7 +54,8 @@ state_with s new = record { building = s.building; factor_map = s.factor_map; pl
 
 -- the conditions of a send: first on the content of the bytes, then on what the book holds
 abbrev pub send_conditions : State → List ℕ → Conditions
-send_conditions s bs = content_conditions s.building.life s.factor_map bs ++ placing_conditions s.places (sent_place s bs)
+send_conditions s bs =
+    content_conditions s.building.life s.factor_map bs ++ placing_conditions s.places (sent_place s bs)
 
 -- r is the place that the first note of the bytes takes in the sheet s, or why that note is unfit; what the book holds
 -- plays no part

@@ -25,4 +25,7 @@ pub record Sums : Type 0 where
   pub counts : (ℕ → Bool) → ℕ
 
 abbrev pub sums_of : Totals → Sums
-sums_of t = record { grams = λ choice. grams_in choice (numbered_rows 1 t.grams); counts = λ choice. count_in choice (numbered_rows 1 t.counts) }
+sums_of t = record {
+  grams = λ choice. grams_in choice (numbered_rows 1 t.grams);
+  counts = λ choice. count_in choice (numbered_rows 1 t.counts);
+}
