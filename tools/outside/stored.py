@@ -1,8 +1,8 @@
-"""Write the stored runs of the crate `runs`, or check that they are what they should be.
+"""Write the stored runs of the crate `stored_reports`, or check that they are what they should be.
 
     python3 stored.py DIR [--check]
 
-The program `runs` works in the folder DIR/data. It reads names from its standard
+The program `stored_reports` works in the folder DIR/data. It reads names from its standard
 input, opens the file of each, and prints the name and the report of that feed.
 DIR/stdin gets the names, DIR/data the feeds, DIR/stdout what it has to print.
 
@@ -21,9 +21,10 @@ import stored_figures
 import stored_form
 import stored_grades
 import stored_rows
+import stored_school
 import stored_sends
 
-SUBJECTS = (stored_form, stored_sends, stored_rows, stored_figures, stored_grades)
+SUBJECTS = (stored_form, stored_sends, stored_rows, stored_figures, stored_grades, stored_school)
 
 
 def stored_runs():

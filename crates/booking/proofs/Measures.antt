@@ -80,8 +80,8 @@ booked_near q is = subst (λ n. IsWithinHalf (pos n) (exact_thousandths q)) (sym
 
 -- and so is every result
 pub gives_near : (q : Quantity) (r : Result ℕ Refusal) → GivesOrRefusesBy (IsQuantityInRange q) UnfitQuantity (λ t. t ≡ booked_thousandths q) r → IfOk r (λ t. IsWithinHalf (pos t) (exact_thousandths q))
-gives_near q (Ok t) activity = booked_near q activity.1
-gives_near q (Err f) activity = tt
+gives_near q (Ok t) gives = booked_near q gives.1
+gives_near q (Err f) gives = tt
 
 -- a counted quantity is booked unchanged
 pub counted_is : (n : ℕ) → n ≡ booked_thousandths (Counted n)

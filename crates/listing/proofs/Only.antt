@@ -67,12 +67,12 @@ note_only a bytes m n s t says says' p q =
 
 -- the text of bytes depends on them alone
 answer_text_only : (a : Basis) (bs s t : List ℕ) (p q : Result Note Refusal) → Reads IsAnyKind Says bs p → Reads IsAnyKind Says bs q → SameAnswer (λ m n. Unit {0}) p q → IsAnswerText a bs p s → IsAnswerText a bs q t → s ≡ t
-answer_text_only a bs s t (Ok m) (Ok n) reads reads' same said said' = note_only a (first_note bs) m n s t reads.1 reads'.1 said said'
-answer_text_only a bs s t (Ok m) (Err g) reads reads' same said said' = absurd same
-answer_text_only a bs s t (Err f) (Ok n) reads reads' same said said' = absurd same
-answer_text_only a bs s t (Err f) (Err g) reads reads' same said said' =
+answer_text_only a bs s t (Ok m) (Ok n) reads reads' same text text' = note_only a (first_note bs) m n s t reads.1 reads'.1 text text'
+answer_text_only a bs s t (Ok m) (Err g) reads reads' same text text' = absurd same
+answer_text_only a bs s t (Err f) (Ok n) reads reads' same text text' = absurd same
+answer_text_only a bs s t (Err f) (Err g) reads reads' same text text' =
     let none = names_none bs f reads ∙ sym (names_none bs g reads') in
-    refused_only bs f g s t (same_words f g same none) said said'
+    refused_only bs f g s t (same_words f g same none) text text'
 
 tells_only : {a : Basis} {bs s t : List ℕ} → IsStatement a bs s → IsStatement a bs t → s ≡ t
 tells_only {a} {bs} {s} {t} x y =

@@ -17,10 +17,10 @@ LinesSoFar a feed r listing = SoFar (Lists a) 1 0 feed r listing
 module _ (a : Basis) {feed : List ℕ} {r : Reader} {listing : List ℕ} (old : SoFar (Lists a) 1 0 feed r listing) where
   -- one more note, whose line is pushed
   pub line_more : (p : Part) (t : Reader) {line pushed longer : List ℕ} → HandsOut r p t → IsPartLine a p line → longer ≡ listing ++ pushed → pushed ≡ line → SoFar (Lists a) 1 0 feed t longer
-  line_more p t {line} hands is_line is told =
-      one_more (Lists a) old line hands (is ∙ ap (λ l. listing ++ l) told) (λ more h. note (part_bytes p) (rest_of t) line more (hands_note r p t hands) refl is_line h refl)
+  line_more p t {line} hands is_line is added =
+      one_more (Lists a) old line hands (is ∙ ap (λ l. listing ++ l) added) (λ more h. note (part_bytes p) (rest_of t) line more (hands_note r p t hands) refl is_line h refl)
 
   -- no more notes: the last line is pushed
   pub last_more : (t : Reader) (left : Part) {line pushed longer : List ℕ} → Stays r t → (IsFramed (rest_of t) → ⊥) → IsRest t left → IsLastLine a left.place left.start (part_bytes left) line → longer ≡ listing ++ pushed → pushed ≡ line → Lists a 1 0 feed longer
-  last_more t left stay other is_left is_last is told =
-      all (Lists a) (stays (Lists a) old stay) (last other (rw (← is_left.bytes, ← is_left.place, ← is_left.start) is_last)) (is ∙ ap (λ l. listing ++ l) told)
+  last_more t left stay other is_left is_last is added =
+      all (Lists a) (stays (Lists a) old stay) (last other (rw (← is_left.bytes, ← is_left.place, ← is_left.start) is_last)) (is ∙ ap (λ l. listing ++ l) added)

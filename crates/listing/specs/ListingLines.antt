@@ -91,9 +91,9 @@ pub record IsStatement (a : Basis) (bs s : List ℕ) : Type 0 where
 
 -- the line of the bytes at the place k, with `at` bytes of the feed before them
 pub record IsLine (a : Basis) (k at : ℕ) (bs line : List ℕ) : Type 0 where
-  pub said : List ℕ
-  pub tells : IsStatement a bs said
-  pub text : line ≡ decimal k ++ (spaced_field (codes "at", at) ++ (codes " " ++ (said ++ codes "\n")))
+  pub statement : List ℕ
+  pub tells : IsStatement a bs statement
+  pub text : line ≡ decimal k ++ (spaced_field (codes "at", at) ++ (codes " " ++ (statement ++ codes "\n")))
 
 -- the line of a part of a feed
 abbrev pub IsPartLine : Basis → Part → List ℕ → Type 0

@@ -159,7 +159,7 @@ pub answered_least : (cs : Conditions) (f : Refusal) → IsLeastFailing cs (refu
 answered_least cs f least = record { kept = λ zero. absurd (omega (arith, above_zero f)); least = λ more. least }
 
 pub least_answered : (cs : Conditions) (f : Refusal) → IsAnswerNumber cs (refusal_number f) → IsLeastFailing cs (refusal_number f)
-least_answered cs f least_failing = least_failing.least (above_zero f)
+least_answered cs f answer = answer.least (above_zero f)
 
 one_number : (cs : Conditions) (m n : ℕ) → IsAnswerNumber cs m → IsAnswerNumber cs n → m ≡ n
 one_number cs zero zero p q = refl

@@ -40,7 +40,7 @@ none_sent start fresh empty =
 
 module _ {b : BuildingNumbers} {factor_map : FactorMap} {bytes : List ℕ} {r : Reader} {s : State} {written : List ℕ} (old : SentSoFar b factor_map bytes r s written) where
   -- one part is sent, at its place
-  module _ (p : Part) (place : p.place ≡ r.handed_out + 1) {t : State} {line pushed longer : List ℕ} (step : WritesSend s p.place (part_bytes p) t line) (is : longer ≡ written ++ pushed) (told : pushed ≡ line) where
+  module _ (p : Part) (place : p.place ≡ r.handed_out + 1) {t : State} {line pushed longer : List ℕ} (step : WritesSend s p.place (part_bytes p) t line) (is : longer ≡ written ++ pushed) (added : pushed ≡ line) where
     abbrev answered_more : List (List ℕ × Result (Unit {0}) Refusal)
     answered_more = (part_bytes p, step.answer) ∷ old.answered
 
@@ -52,7 +52,7 @@ module _ {b : BuildingNumbers} {factor_map : FactorMap} {bytes : List ℕ} {r : 
         let count = length_sends old.answered in
         let places = old.places in
         let at : p.place ≡ length (sent_bytes (send_events old.answered)) + 1 = omega (arith, place, places, count) in
-        is ∙ (λ i. old.same i ++ (told ∙ step.written ∙ ap (λ k. send_text k step.answer) at) i)
+        is ∙ (λ i. old.same i ++ (added ∙ step.written ∙ ap (λ k. send_text k step.answer) at) i)
 
     pub note_sent : {u : Reader} → HandsOut r p u → SentSoFar b factor_map bytes u t longer
     note_sent {u} hands =

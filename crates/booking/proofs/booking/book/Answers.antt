@@ -25,12 +25,12 @@ returns-then-not-unit_fits-clause-value g c = unit_refused (record { activity = 
 pub grams-requires : goal.grams-requires
 grams-requires g c =
     let e = c.args.entry.now in
-    let said = c.in_ok-activity.ensures in
-    let thousandths = booked_range e.quantity (hold_at (refusal_number UnfitQuantity) (own_conditions e) said.0) in
-    let divisor = divisor_range (method e.head.row) e.head.span (hold_at (refusal_number UnfitSpan) (own_conditions e) said.0) in
+    let activity = c.in_ok-activity.ensures in
+    let thousandths = booked_range e.quantity (hold_at (refusal_number UnfitQuantity) (own_conditions e) activity.0) in
+    let divisor = divisor_range (method e.head.row) e.head.span (hold_at (refusal_number UnfitSpan) (own_conditions e) activity.0) in
     record {
-      thousandths = omega (arith, thousandths, said.1.counts);
-      divisor = (omega (arith, divisor, said.1.divides), omega (arith, divisor, said.1.divides));
+      thousandths = omega (arith, thousandths, activity.1.counts);
+      divisor = (omega (arith, divisor, activity.1.divides), omega (arith, divisor, activity.1.divides));
     }
 
 pub returns-in_err-grams-clause-value : goal.returns-in_err-grams-clause-value
@@ -47,9 +47,9 @@ invariant_of-result g c =
 pub returns : goal.returns
 returns g c =
     let head = c.args.entry.now.head in
-    let said = c.in_ok-activity.ensures.1 in
+    let activity = c.in_ok-activity.ensures.1 in
     let w = calculated (record { activity = c.in_ok-activity.ensures; found = c.in_ok-factor.ensures }) c.if-not-unit_fits.ensures c.in_ok-grams.ensures in
     record {
-      value = ((w.kept, λ i. record { row = said.row_is i; span = head.span; code = head.code; thousandths = said.counts i; grams = w.grams i }), tt);
+      value = ((w.kept, λ i. record { row = activity.row_is i; span = head.span; code = head.code; thousandths = activity.counts i; grams = w.grams i }), tt);
       near = w.near;
     }

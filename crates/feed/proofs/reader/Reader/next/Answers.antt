@@ -11,14 +11,14 @@ pub returns-then-is_empty : goal.returns-then-is_empty
 returns-then-is_empty c =
     let self = c.args.self.now in
     let none : rest_of self ≡ [] = grind (arith, common_steps) in
-    let told : AnswersNext self (Ok None) self = (none, record { over = refl; bytes = refl; notes = refl }) in
-    record { value = told; law = lawful_call self (Ok None) self told }
+    let answers : AnswersNext self (Ok None) self = (none, record { over = refl; bytes = refl; notes = refl }) in
+    record { value = answers; law = lawful_call self (Ok None) self answers }
 
 pub returns-in_err-bytes : goal.returns-in_err-bytes
 returns-in_err-bytes c =
     let self = c.args.self.now in
-    let told : AnswersNext self c.from_residual.result self = search rules in
-    record { value = told; law = lawful_call self _ self told }
+    let answers : AnswersNext self c.from_residual.result self = search rules in
+    record { value = answers; law = lawful_call self _ self answers }
 
 pub invariant_of-self : goal.invariant_of-self
 invariant_of-self c =
@@ -33,7 +33,7 @@ returns c =
     let left = c.rest-left.ensures in
     let part : Part = record { place = c.rest-left.result.place; start = c.rest-left.result.start; bytes = c.in_ok-bytes.bytes } in
     let step = c.in_ok-bytes.ensures in
-    let told : HandsOut c.args.self.now part _ =
+    let answers : HandsOut c.args.self.now part _ =
     record {
       framed = subst IsFramed left.bytes step.0.0;
       note = step.1 ∙ ap first_note left.bytes;
@@ -43,4 +43,4 @@ returns c =
       bytes = refl;
       notes = refl;
     } in
-    record { value = told; law = lawful_call _ (Ok (Some part)) _ told }
+    record { value = answers; law = lawful_call _ (Ok (Some part)) _ answers }
