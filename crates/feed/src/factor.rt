@@ -1,5 +1,5 @@
 //! Reading a row of a project's own factors from its note.
-ghost use Rattle.std.specs.Prelude.{◌≡◌, ◌≤◌, length, MatchBool, ◌↔◌, IsTrue};
+ghost use Rattle.std.specs.Prelude.{◌≡◌, ◌≤◌, length, ◌↔◌, IsTrue};
 ghost use Rattle.feed.specs.FactorFields.{factor_row_of_note};
 ghost use Rattle.feed.specs.Frames.{IsFramed, first_note};
 ghost use Rattle.feed.specs.Kinds.{note_length};

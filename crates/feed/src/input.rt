@@ -13,6 +13,8 @@ pub fn read_feed<R: Read + Drop>(alloc: Global, reader: R) -> io::Result<Vec<u8>
     ensures { IfOk result (λ bytes. IfSome (R.remaining reader) (λ feed. bytes.items ≡ take 65537 feed)) }
 {
     let mut feed = Vec::new(alloc);
-    reader.take(MAX_FEED_BYTES as u64 + 1).read_to_end(&mut feed)?;
+    reader
+        .take(MAX_FEED_BYTES as u64 + 1)
+        .read_to_end(&mut feed)?;
     Ok(feed)
 }

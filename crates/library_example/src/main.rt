@@ -1,4 +1,5 @@
-//! How a program of one's own uses the sheet: it opens one for a school, sends five notes, one of which is refused, and prints what the others come to.
+//! How a program of one's own uses the library: it opens the sheet of a school, sends five notes, one of which is refused,
+//! and prints two pages and the grade.
 #![tactic(auto)]
 
 mod notes;

@@ -30,8 +30,8 @@ pub record IsLawfulPage (y : ℕ) (factor_map : FactorMap) (bytes : List (List �
   -- any neighbouring headings are near the exact sum of the entries under them, which is of booked thousandths
   pub near : (i j : ℕ) → i ≤ j → j ≤ cut.size
       → IsNear (printed_kilograms (figures_between i j figures))
-          ((heading_sums cut (booked_sums y factor_map entries)).counts (is_between i j))
-          (exact_sum_in y factor_map (λ row. is_between i j (cut.heading row)) entries)
+      ((heading_sums cut (booked_sums y factor_map entries)).counts (is_between i j))
+      (exact_sum_in y factor_map (λ row. is_between i j (cut.heading row)) entries)
   -- the headings add to the total
   pub adds : AddUp figures total
 

@@ -1,5 +1,5 @@
 //! The book: a place for each number, in the order in which the numbers first came.
-ghost use Rattle.std.specs.Prelude.{◌≡◌, ◌<◌, ◌≤◌, [], ◌==◌, length, Some, None, MatchBool, ◌↔◌, IsTrue};
+ghost use Rattle.std.specs.Prelude.{◌≡◌, ◌<◌, ◌≤◌, [], ◌==◌, length, Some, None, ◌↔◌, IsTrue};
 ghost use Rattle.std.specs.List.{position};
 ghost use Rattle.sheet.specs.LineSums.{held_lines, sums_of_lines};
 ghost use Rattle.totals.specs.Sums.{sums_of};

@@ -1,5 +1,5 @@
 //! A place of the book, and what a note puts into one.
-ghost use Rattle.std.specs.Prelude.{◌≡◌, Some, MatchBool, IfErr, option_map, ◌↔◌, IsTrue};
+ghost use Rattle.std.specs.Prelude.{◌≡◌, Some, IfErr, option_map, ◌↔◌, IsTrue};
 ghost use Rattle.refusals.specs.Refusals.{GivesOrRefuses};
 ghost use Rattle.booking.specs.Booking.{line_numbers};
 ghost use Rattle.sheet.specs.LineSums.{line_in_range};
@@ -62,7 +62,8 @@ impl Place {
         source: &S,
     ) -> Result<Place, Refusal>
         ensures value { GivesPlace building.now.life (S.factor_map source.now) (roll_note_of sent.now) result }
-        ensures named { IfErr result (NamesLackOf building.now.life (S.factor_map source.now) (roll_note_of sent.now).entry) }
+        ensures named { IfErr result (NamesLackOf building.now.life (S.factor_map source.now)
+            (roll_note_of sent.now).entry) }
     {
         let content = match sent.content {
             SentContent::Entry(entry) => {

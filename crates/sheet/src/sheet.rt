@@ -66,8 +66,10 @@ impl<S: FactorSource> Sheet<S> {
     /// Writes a page by a cut into the first places lent, one for each heading, and returns the figure of the total.
     /// Refused by `TooFewPlaces` (11) where there are fewer, and then no place is changed.
     pub fn page<C: Cut>(&self, cut: &C, figures: &mut [Figure]) -> Result<Figure, Refusal>
-        ensures value { DrawsPage (state_of S.factor_map self.now) (C.assignment cut.now) figures.old result figures.new }
-        ensures law { KeepsLaw (state_of S.factor_map self.now) (page_event (C.assignment cut.now) figures.old result figures.new) }
+        ensures value { DrawsPage (state_of S.factor_map self.now) (C.assignment cut.now) figures.old
+            result figures.new }
+        ensures law { KeepsLaw (state_of S.factor_map self.now)
+            (page_event (C.assignment cut.now) figures.old result figures.new) }
     {
         pages::write_page(self.book.totals(), cut, figures)
     }
