@@ -3,7 +3,7 @@ use Rattle.std.proofs.Common.{◌≡◌, ℕ, [], ◌∷◌, true, false, true�
 use Rattle.exact.specs.Rounding.{rounded_quotient, IsWithinHalf}
 use Rattle.refusals.specs.declared.lack_codes.LackCodes.{LackCodes}
 use Rattle.refusals.specs.declared.refusal.Refusal.{Refusal}
-use Rattle.refusals.specs.declared.refusal.Refusal.TheVariants.{FactorLacking, UnfitUnit, TooLarge}
+use Rattle.refusals.specs.declared.refusal.Refusal.TheVariants.{FactorLacking, InvalidUnit, TooLarge}
 use Rattle.refusals.specs.Refusals.{refusal_number, lack_number, AllHold, SomeFails, IsLeastFailing}
 use Rattle.refusals.proofs.Deciding.{least_stop, least_on, least_failing, both_hold, number_absent}
 use Rattle.domain.specs.declared.entry.Entry.{Entry}
@@ -67,10 +67,10 @@ module _ {y : ℕ} {factor_map : FactorMap} {e : Entry} {s : Activity} {f : Fact
   product_is : product_of s f ≡ entry_product y factor_map e
   product_is i = product (says.counts i) (amount_of (sym x.found i)) (says.multiplies i)
 
-  pub unit_refused : false ≡ unit_fits s.method f.unit → Books y factor_map e (Err UnfitUnit)
+  pub unit_refused : false ≡ unit_fits s.method f.unit → Books y factor_map e (Err InvalidUnit)
   unit_refused unfit =
-      refuses UnfitUnit (λ lack. omega arith)
-      (least_failing (factor_condition y factor_map e ∷ []) (product_condition y factor_map e ∷ []) (refusal_number UnfitUnit) refl (factor_known, tt) (λ fits. true≢false (sym (unfit ∙ unit_is ∙ fits))))
+      refuses InvalidUnit (λ lack. omega arith)
+      (least_failing (factor_condition y factor_map e ∷ []) (product_condition y factor_map e ∷ []) (refusal_number InvalidUnit) refl (factor_known, tt) (λ fits. true≢false (sym (unfit ∙ unit_is ∙ fits))))
 
   module _ (fits : true ≡ unit_fits s.method f.unit) where
     unit_fit : (unit_condition y factor_map e).1

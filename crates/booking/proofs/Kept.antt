@@ -1,9 +1,9 @@
 -- What holds of an entry that is booked: the laws that other crates cite.
 use Rattle.std.proofs.Common.{pos, ℕ, ◌<◌, ◌≤◌, arith}
-use Rattle.exact.specs.Rounding.{HasDivisor, IsWithinHalf}
+use Rattle.exact.specs.Rounding.{HasPositiveDivisor, IsWithinHalf}
 use Rattle.exact.proofs.Nearness.{rounded_near, rounded_most}
 use Rattle.factors.specs.Maps.{FactorMap}
-use Rattle.refusals.specs.declared.refusal.Refusal.TheVariants.{UnknownRow, UnfitSpan, TooLarge}
+use Rattle.refusals.specs.declared.refusal.Refusal.TheVariants.{UnknownRow, InvalidSpan, TooLarge}
 use Rattle.refusals.specs.Refusals.{refusal_number, AllHold}
 use Rattle.refusals.proofs.Deciding.{hold_at}
 use Rattle.domain.specs.declared.entry.Entry.{Entry}
@@ -25,14 +25,14 @@ module _ (y : ℕ) (factor_map : FactorMap) (e : Entry) (kept : AllHold (booking
 
   span_kept : (span_condition e).1
   unfolding booking_conditions
-  span_kept = hold_at (refusal_number UnfitSpan) (booking_conditions y factor_map e) kept
+  span_kept = hold_at (refusal_number InvalidSpan) (booking_conditions y factor_map e) kept
 
   product_kept : (product_condition y factor_map e).1
   unfolding booking_conditions
   product_kept = hold_at (refusal_number TooLarge) (booking_conditions y factor_map e) kept
 
   -- the divisor of its exact grams is positive
-  pub exact_divides : HasDivisor (exact_grams y factor_map e)
+  pub exact_divides : HasPositiveDivisor (exact_grams y factor_map e)
   exact_divides = omega (arith, divisor_range (method e.head.row) e.head.span span_kept)
 
   -- its booked grams are in the range of a line, and within half a gram of the exact ones

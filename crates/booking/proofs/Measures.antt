@@ -6,9 +6,9 @@ use Rattle.std.specs.Bool.{IsTrue}
 use Rattle.std.proofs.lemmas.Bool.Decides.{nat_tests}
 use Rattle.std.proofs.lemmas.Int.{ints}
 use Rattle.refusals.specs.declared.refusal.Refusal.{Refusal}
-use Rattle.refusals.specs.declared.refusal.Refusal.TheVariants.{UnfitQuantity}
+use Rattle.refusals.specs.declared.refusal.Refusal.TheVariants.{InvalidQuantity}
 use Rattle.refusals.specs.Refusals.{GivesOrRefusesBy}
-use Rattle.exact.specs.Rounding.{over, HasDivisor, nearest_whole, IsWithinHalf}
+use Rattle.exact.specs.Rounding.{over, HasPositiveDivisor, nearest_whole, IsWithinHalf}
 use Rattle.exact.proofs.Nearness.{stays, rounded_near, rounded_most}
 use Rattle.domain.specs.declared.entry.Quantity.{Quantity}
 use Rattle.domain.specs.declared.entry.Quantity.TheVariants.{Counted, Measured}
@@ -63,7 +63,7 @@ passed (fin true m e) r =
 passed (fin false m e) r = ((at_most (0 * down e) (m * up e * 1)).1 (omega arith), (at_most (m * up e * 1) (1000000 * down e)).1 (omega (arith, r.0)))
 
 -- the divisor of measured thousandths is positive
-pub divides : (x : Float) → HasDivisor (measured_thousandths x)
+pub divides : (x : Float) → HasPositiveDivisor (measured_thousandths x)
 divides nan = omega arith
 divides (inf s) = omega arith
 divides (fin s m e) = down_pos e
@@ -79,7 +79,7 @@ booked_near q is = subst (λ n. IsWithinHalf (pos n) (exact_thousandths q)) (sym
     near (Measured (fin s m e)) = rounded_near (1000 * (m * up e)) (down e) (down_pos e)
 
 -- and so is every result
-pub gives_near : (q : Quantity) (r : Result ℕ Refusal) → GivesOrRefusesBy (IsQuantityInRange q) UnfitQuantity (λ t. t ≡ booked_thousandths q) r → IfOk r (λ t. IsWithinHalf (pos t) (exact_thousandths q))
+pub gives_near : (q : Quantity) (r : Result ℕ Refusal) → GivesOrRefusesBy (IsQuantityInRange q) InvalidQuantity (λ t. t ≡ booked_thousandths q) r → IfOk r (λ t. IsWithinHalf (pos t) (exact_thousandths q))
 gives_near q (Ok t) gives = booked_near q gives.1
 gives_near q (Err f) gives = tt
 

@@ -3,7 +3,7 @@ use Rattle.std.specs.Prelude.{◌≡◌, ℕ, IsTrue, [], ◌∷◌, ◌++◌, p
 use Rattle.exact.specs.Rounding.{Fraction, over, rounded_quotient, IsWithinHalf}
 use Rattle.refusals.specs.declared.lack_codes.LackCodes.{LackCodes}
 use Rattle.refusals.specs.declared.refusal.Refusal.{Refusal}
-use Rattle.refusals.specs.declared.refusal.Refusal.TheVariants.{UnknownRow, UnfitSpan, UnfitQuantity, UnfitUnit, TooLarge}
+use Rattle.refusals.specs.declared.refusal.Refusal.TheVariants.{UnknownRow, InvalidSpan, InvalidQuantity, InvalidUnit, TooLarge}
 use Rattle.refusals.specs.Refusals.{refusal_number, lack_number, refusal_codes, Conditions, GivesOrRefuses}
 use Rattle.factors.specs.Maps.{FactorAnswer, FactorMap, has, lacks}
 use Rattle.domain.specs.Factors.{factor_numbers}
@@ -62,21 +62,22 @@ module _ (e : Entry) where
   row_condition = (refusal_number UnknownRow, IsRowNumber e.head.row)
 
   abbrev pub span_condition : ℕ × Type 0
-  span_condition = (refusal_number UnfitSpan, SpanFits (method e.head.row) e.head.span)
+  span_condition = (refusal_number InvalidSpan, SpanFits (method e.head.row) e.head.span)
 
   abbrev pub quantity_condition : ℕ × Type 0
-  quantity_condition = (refusal_number UnfitQuantity, IsQuantityInRange e.quantity)
+  quantity_condition = (refusal_number InvalidQuantity, IsQuantityInRange e.quantity)
 
+  -- the conditions on an entry that need no factor
   abbrev pub own_conditions : Conditions
   own_conditions = row_condition ∷ span_condition ∷ quantity_condition ∷ []
 
--- s is the activity of the entry e, in a building with a life of y years
-pub record IsActivity (y : ℕ) (e : Entry) (s : Activity) : Type 0 where
-  pub row_is : row_number s.row ≡ e.head.row
-  pub method_is : s.method ≡ method e.head.row
-  pub multiplies : s.terms.multiplier ≡ multiplier (method e.head.row) y e.head.span
-  pub divides : s.terms.divisor ≡ divisor (method e.head.row) e.head.span
-  pub counts : s.thousandths ≡ booked_thousandths e.quantity
+-- a is the activity of the entry e, in a building with a life of y years
+pub record IsActivity (y : ℕ) (e : Entry) (a : Activity) : Type 0 where
+  pub row_is : row_number a.row ≡ e.head.row
+  pub method_is : a.method ≡ method e.head.row
+  pub multiplies : a.terms.multiplier ≡ multiplier (method e.head.row) y e.head.span
+  pub divides : a.terms.divisor ≡ divisor (method e.head.row) e.head.span
+  pub counts : a.thousandths ≡ booked_thousandths e.quantity
 
 -- an entry in a building with a life of y years, with the factors of a map
 module _ (y : ℕ) (factor_map : FactorMap) (e : Entry) where
@@ -96,11 +97,12 @@ module _ (y : ℕ) (factor_map : FactorMap) (e : Entry) where
   factor_condition = (lack_number, HasFactor factor)
 
   abbrev pub unit_condition : ℕ × Type 0
-  unit_condition = (refusal_number UnfitUnit, IsTrue (unit_fits (method e.head.row) (unit_of factor)))
+  unit_condition = (refusal_number InvalidUnit, IsTrue (unit_fits (method e.head.row) (unit_of factor)))
 
   abbrev pub product_condition : ℕ × Type 0
   product_condition = (refusal_number TooLarge, IsProductInRange entry_product)
 
+  -- the conditions that depend on its factor
   abbrev pub factor_conditions : Conditions
   factor_conditions = factor_condition ∷ unit_condition ∷ product_condition ∷ []
 

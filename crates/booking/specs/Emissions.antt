@@ -10,8 +10,9 @@ use Rattle.exact.specs.Rounding.{rounded_quotient}
 abbrev pub product : ℕ → ℕ → ℕ → ℕ
 product q f m = q * f * m
 
+-- a product that is not refused
 abbrev pub IsProductInRange : ℕ → Type 0
-IsProductInRange w = w ≤ 1000000000000000000
+IsProductInRange p = p ≤ 1000000000000000000
 
 -- what the product is divided by to give grams
 abbrev pub exact_divisor : ℕ → ℕ
@@ -21,6 +22,7 @@ exact_divisor d = 10000 * d
 abbrev pub max_grams : ℕ
 max_grams = 100000000000000
 
+-- grams that a booked line can have
 abbrev pub IsLineGrams : ℕ → Type 0
 IsLineGrams g = g ≤ max_grams
 

@@ -4,11 +4,11 @@ use Rattle.domain.specs.Ranges.{IsBetween}
 use Rattle.booking.specs.declared.method.CalculationMethod.{CalculationMethod}
 use Rattle.booking.specs.declared.method.CalculationMethod.TheVariants.{OneOff, DistanceBased, Annual, Replacement, Leakage}
 use Rattle.refusals.specs.declared.refusal.Refusal.{Refusal}
-use Rattle.refusals.specs.declared.refusal.Refusal.TheVariants.{UnfitSpan}
+use Rattle.refusals.specs.declared.refusal.Refusal.TheVariants.{InvalidSpan}
 use Rattle.refusals.specs.Refusals.{GivesOrRefusesBy}
 use Rattle.booking.specs.declared.method.Terms.{Terms}
 use Rattle.domain.specs.Numbers.{unit_number}
-use Rattle.domain.specs.declared.units.FactorUnit.TheVariants.{TonneKilometre, Kilogram}
+use Rattle.domain.specs.declared.factor_unit.FactorUnit.TheVariants.{TonneKilometre, Kilogram}
 
 -- the span is up to 10,000 kilometres, 1 to 100 years, or 0
 abbrev pub SpanFits : CalculationMethod → ℕ → Type 0
@@ -41,4 +41,4 @@ unit_fits k u = not (u == unit_number TonneKilometre)
 -- r is what an entry with the span s is multiplied and divided by, in a building with a life of y years, if the span fits
 abbrev pub GivesTerms : CalculationMethod → ℕ → ℕ → Result Terms Refusal → Type 0
 GivesTerms k y s r =
-    GivesOrRefusesBy (SpanFits k s) UnfitSpan (λ t. (t.multiplier ≡ multiplier k y s) × (t.divisor ≡ divisor k s)) r
+    GivesOrRefusesBy (SpanFits k s) InvalidSpan (λ t. (t.multiplier ≡ multiplier k y s) × (t.divisor ≡ divisor k s)) r

@@ -6,7 +6,7 @@ use Rattle.exact.specs.Rounding.{Fraction, over, nearest_whole}
 use Rattle.domain.specs.declared.entry.Quantity.{Quantity}
 use Rattle.domain.specs.declared.entry.Quantity.TheVariants.{Counted, Measured}
 use Rattle.refusals.specs.declared.refusal.Refusal.{Refusal}
-use Rattle.refusals.specs.declared.refusal.Refusal.TheVariants.{UnfitQuantity}
+use Rattle.refusals.specs.declared.refusal.Refusal.TheVariants.{InvalidQuantity}
 use Rattle.refusals.specs.Refusals.{GivesOrRefusesBy}
 
 -- a binary64 number from 0 to 1,000,000: it is m × 2^e, with 2^e written as up e / down e, and negative only where it
@@ -37,4 +37,4 @@ booked_thousandths q = unsigned_abs (nearest_whole (exact_thousandths q))
 
 -- r is the thousandths that are booked of a quantity, if it is in range
 abbrev pub BooksThousandths : Quantity → Result ℕ Refusal → Type 0
-BooksThousandths q r = GivesOrRefusesBy (IsQuantityInRange q) UnfitQuantity (λ t. t ≡ booked_thousandths q) r
+BooksThousandths q r = GivesOrRefusesBy (IsQuantityInRange q) InvalidQuantity (λ t. t ≡ booked_thousandths q) r

@@ -1,8 +1,7 @@
 //! Booking an entry in a building, with the factors of a source.
-ghost use Rattle.std.specs.Prelude.{pos, IfOk};
-ghost use Rattle.exact.specs.Rounding.{IsWithinHalf};
+ghost use Rattle.std.specs.Prelude.{IfOk};
 ghost use Rattle.refusals.specs.Refusals.{GivesOrRefuses};
-ghost use Rattle.booking.specs.Booking.{own_conditions, IsActivity, exact_grams, Books, GivesFactor, IsNearExact};
+ghost use Rattle.booking.specs.Booking.{own_conditions, IsActivity, Books, GivesFactor, IsNearExact};
 
 use crate::emissions::grams;
 use crate::line::BookedLine;
@@ -26,9 +25,9 @@ pub fn book<S: FactorSource>(
 {
     let activity = activity_of(building.life, entry)?;
     let head = entry.head;
-    let factor = ask(source, head.code)?;
+    let factor = factor_for(source, head.code)?;
     if !activity.method.unit_fits(factor.unit) {
-        return Err(Refusal::UnfitUnit);
+        return Err(Refusal::InvalidUnit);
     }
     let grams = grams(activity.thousandths, factor, activity.terms)?;
     Ok(BookedLine {
@@ -67,7 +66,7 @@ fn activity_of(years: u16, entry: &Entry) -> Result<Activity, Refusal>
 }
 
 // The factor of a code, or the codes of a lack.
-fn ask<S: FactorSource>(source: &S, code: u32) -> Result<Factor, LackCodes>
+fn factor_for<S: FactorSource>(source: &S, code: u32) -> Result<Factor, LackCodes>
     ensures { GivesFactor (S.factor_map source.now code) code result }
 {
     source.factor(code).map_err(|lack| LackCodes {

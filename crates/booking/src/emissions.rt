@@ -1,13 +1,11 @@
 //! The emissions of a quantity at a factor, in whole grams.
-ghost use Rattle.std.specs.Prelude.{◌≡◌, ◌<◌, ◌≤◌};
-ghost use Rattle.exact.specs.Rounding.{rounded_quotient};
-ghost use Rattle.booking.specs.Emissions.{product, IsProductInRange, exact_divisor, GivesGrams};
+ghost use Rattle.std.specs.Prelude.{◌<◌, ◌≤◌};
+ghost use Rattle.booking.specs.Emissions.{product, GivesGrams};
 ghost use Rattle.refusals.specs.declared.refusal.Refusal.TheVariants.{TooLarge};
-ghost use Rattle.refusals.specs.Refusals.{GivesOrRefusesBy};
 
 use crate::method::Terms;
 use domain::Factor;
-use exact::Ratio;
+use exact::Fraction;
 use refusals::Refusal;
 
 const MAX_PRODUCT: u64 = 1_000_000_000_000_000_000;
@@ -26,7 +24,7 @@ pub(crate) fn grams(thousandths: u64, factor: Factor, terms: Terms) -> Result<u6
         .checked_mul(u64::from(terms.multiplier))
         .filter(|product| *product <= MAX_PRODUCT)
         .ok_or(Refusal::TooLarge)?;
-    let exact = Ratio {
+    let exact = Fraction {
         numerator: product as i64,
         divisor: PER_GRAM * u32::from(terms.divisor),
     };

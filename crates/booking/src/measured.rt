@@ -3,7 +3,7 @@ ghost use Rattle.std.specs.Prelude.{◌^◌, ◌↔◌, IsTrue, pos};
 ghost use Rattle.exact.specs.Rounding.{over, IsSame};
 ghost use Rattle.booking.specs.Quantities.{IsMeasuredInRange, measured_thousandths};
 
-use exact::Binary;
+use exact::BinaryFraction;
 
 const MAX_MEASURED: f64 = 1_000_000.0;
 
@@ -27,7 +27,7 @@ pub(crate) fn is_in_range(x: f64) -> bool
 }
 
 // The exact thousandths of a measured quantity.
-pub(crate) fn exact_thousandths(x: f64) -> Binary
+pub(crate) fn exact_thousandths(x: f64) -> BinaryFraction
     requires { IsMeasuredInRange x }
     ensures { IsSame (over (pos result.numerator) (2 ^ result.shift)) (measured_thousandths x) }
 {
@@ -36,13 +36,13 @@ pub(crate) fn exact_thousandths(x: f64) -> Binary
     let exponent = (size >> DIGITS) as u32;
     let digits = size % LEADING_DIGIT;
     if exponent == 0 {
-        return Binary {
+        return BinaryFraction {
             numerator: digits * 1_000,
             shift: SMALLEST,
         };
     }
     // A number of at most a million has an exponent far below 1075, so the subtraction cannot wrap.
-    Binary {
+    BinaryFraction {
         numerator: (LEADING_DIGIT + digits) * 1_000,
         shift: SMALLEST + 1 - exponent,
     }

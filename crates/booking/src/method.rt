@@ -1,9 +1,8 @@
 //! The calculation methods: which spans and units they take, and what an entry is multiplied and divided by.
 ghost use Rattle.std.specs.Prelude.{◌≡◌};
 ghost use Rattle.domain.specs.Numbers.{unit_number};
-ghost use Rattle.booking.specs.Methods.{SpanFits, multiplier, divisor, unit_fits, GivesTerms};
-ghost use Rattle.refusals.specs.declared.refusal.Refusal.TheVariants.{UnfitSpan};
-ghost use Rattle.refusals.specs.Refusals.{GivesOrRefusesBy};
+ghost use Rattle.booking.specs.Methods.{multiplier, divisor, unit_fits, GivesTerms};
+ghost use Rattle.refusals.specs.declared.refusal.Refusal.TheVariants.{InvalidSpan};
 
 use domain::FactorUnit;
 use refusals::Refusal;
@@ -15,16 +14,16 @@ const MAX_YEARS: u16 = 100;
 /// How the emissions of a row are calculated. The meaning and the range of an entry's span depend on it.
 #[derive(Clone, Copy, Debug, PartialEq, Eq)]
 pub enum CalculationMethod {
-    /// The quantity is the whole amount. The span is 0.
+    /// The quantity is the whole of it. The span is 0.
     OneOff,
-    /// The quantity is carried. The span is the distance in kilometres, 0 to 10,000.
+    /// The quantity is what is carried, in tonnes. The span is the distance in kilometres, 0 to 10,000.
     DistanceBased,
-    /// The quantity is the amount of a year, and counts for every year of the building's life. The span is 0.
+    /// The quantity is that of one year, and counts for every year of the building's life. The span is 0.
     Annual,
-    /// The quantity is the amount of one replacement, which comes each time the part has served its years. The span is
+    /// The quantity is that of one replacement, which comes each time the part has served its years. The span is
     /// those years, 1 to 100.
     Replacement,
-    /// The quantity is the charge of equipment, which leaks out and is refilled once over the equipment's years. The
+    /// The quantity is the charge of equipment in kilograms, which leaks out and is refilled once over the equipment's years. The
     /// span is those years, 1 to 100. After the national standard for a building's carbon.
     Leakage,
 }
@@ -50,7 +49,7 @@ impl CalculationMethod {
             CalculationMethod::Annual if span == 0 => (years, 1),
             CalculationMethod::Replacement if (1..=MAX_YEARS).contains(&span) => (years / span, 1),
             CalculationMethod::Leakage if (1..=MAX_YEARS).contains(&span) => (years, span),
-            _ => return Err(Refusal::UnfitSpan),
+            _ => return Err(Refusal::InvalidSpan),
         };
         Ok(Terms {
             multiplier,

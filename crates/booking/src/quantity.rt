@@ -1,10 +1,9 @@
 //! The thousandths that a quantity is booked as.
-ghost use Rattle.std.specs.Prelude.{◌≡◌, pos, IfOk};
+ghost use Rattle.std.specs.Prelude.{pos, IfOk};
 ghost use Rattle.domain.specs.declared.entry.Quantity.TheVariants.{Counted, Measured};
 ghost use Rattle.exact.specs.Rounding.{IsWithinHalf};
-ghost use Rattle.booking.specs.Quantities.{IsQuantityInRange, exact_thousandths, booked_thousandths, BooksThousandths};
-ghost use Rattle.refusals.specs.declared.refusal.Refusal.TheVariants.{UnfitQuantity};
-ghost use Rattle.refusals.specs.Refusals.{GivesOrRefusesBy};
+ghost use Rattle.booking.specs.Quantities.{exact_thousandths, BooksThousandths};
+ghost use Rattle.refusals.specs.declared.refusal.Refusal.TheVariants.{InvalidQuantity};
 
 use crate::measured::{exact_thousandths, is_in_range};
 use domain::Quantity;
@@ -29,7 +28,7 @@ fn counted_thousandths(n: u64) -> Result<u64, Refusal>
     ensures { BooksThousandths (Counted n) result }
 {
     if n > MAX_COUNTED {
-        return Err(Refusal::UnfitQuantity);
+        return Err(Refusal::InvalidQuantity);
     }
     Ok(n)
 }
@@ -38,7 +37,7 @@ fn measured_thousandths(x: f64) -> Result<u64, Refusal>
     ensures { BooksThousandths (Measured x) result }
 {
     if !is_in_range(x) {
-        return Err(Refusal::UnfitQuantity);
+        return Err(Refusal::InvalidQuantity);
     }
     Ok(exact_thousandths(x).round())
 }

@@ -10,7 +10,7 @@ use crate::row::Row;
 pub enum Stage {
     /// Production of material and equipment, and haulage to the site.
     A = 1,
-    /// Building.
+    /// Construction.
     B = 2,
     /// Use.
     C = 3,

@@ -22,14 +22,18 @@ fields_text [] = []
 fields_text (f ∷ []) = field_text f
 fields_text (f ∷ g ∷ more) = field_text f ++ (codes " " ++ fields_text (g ∷ more))
 
+-- the fields of a building by name, in the order in which they are listed
 abbrev pub building_fields : BuildingNumbers → List NamedField
 building_fields b =
     (codes "area", b.area) ∷ (codes "life", b.life) ∷ (codes "region", b.region) ∷ (codes "sun", b.sun)
     ∷ (codes "type", b.building_type) ∷ (codes "reference", b.reference) ∷ []
 
-abbrev pub row_fields : FactorRow → List NamedField
-row_fields row = (codes "code", row.code) ∷ (codes "amount", row.factor.amount) ∷ (codes "unit", row.factor.unit) ∷ []
+-- and of a factor row
+abbrev pub factor_row_fields : FactorRow → List NamedField
+factor_row_fields row =
+    (codes "code", row.code) ∷ (codes "amount", row.factor.amount) ∷ (codes "unit", row.factor.unit) ∷ []
 
+-- and of an entry, before its quantity
 abbrev pub head_fields : EntryHead → List NamedField
 head_fields e = (codes "row", e.row) ∷ (codes "span", e.span) ∷ (codes "code", e.code) ∷ []
 
@@ -38,4 +42,4 @@ abbrev pub building_text : BuildingNumbers → List ℕ
 building_text b = codes "building " ++ fields_text (building_fields b)
 
 abbrev pub factor_row_text : FactorRow → List ℕ
-factor_row_text row = codes "factor " ++ fields_text (row_fields row)
+factor_row_text row = codes "factor " ++ fields_text (factor_row_fields row)

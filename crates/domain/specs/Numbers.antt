@@ -1,11 +1,11 @@
 -- The numbers that regions, building types and units have.
 use Rattle.std.specs.Prelude.{ℕ}
-use Rattle.domain.specs.declared.regions.Region.{Region}
-use Rattle.domain.specs.declared.regions.Region.TheVariants.{SevereCold, Cold, HotSummerColdWinter, HotSummerWarmWinter, Mild}
-use Rattle.domain.specs.declared.types.BuildingType.{BuildingType}
-use Rattle.domain.specs.declared.types.BuildingType.TheVariants.{Residential, SmallOffice, LargeOffice, SmallHotel, LargeHotel, Shop, Hospital, School}
-use Rattle.domain.specs.declared.units.FactorUnit.{FactorUnit}
-use Rattle.domain.specs.declared.units.FactorUnit.TheVariants.{Tonne, CubicMetre, KilowattHour, Kilogram, TonneKilometre, Piece, SquareMetre}
+use Rattle.domain.specs.declared.region.Region.{Region}
+use Rattle.domain.specs.declared.region.Region.TheVariants.{SevereCold, Cold, HotSummerColdWinter, HotSummerWarmWinter, Mild}
+use Rattle.domain.specs.declared.building_type.BuildingType.{BuildingType}
+use Rattle.domain.specs.declared.building_type.BuildingType.TheVariants.{Residential, SmallOffice, LargeOffice, SmallHotel, LargeHotel, Shop, Hospital, School}
+use Rattle.domain.specs.declared.factor_unit.FactorUnit.{FactorUnit}
+use Rattle.domain.specs.declared.factor_unit.FactorUnit.TheVariants.{Tonne, CubicMetre, KilowattHour, Kilogram, TonneKilometre, Piece, SquareMetre}
 
 abbrev pub region_number : Region → ℕ
 region_number SevereCold = 1

@@ -1,9 +1,9 @@
 //! A building: its area, its life, its climate, its type and its reference intensity.
-ghost use Rattle.std.specs.Prelude.{◌≡◌, Some};
+ghost use Rattle.std.specs.Prelude.{Some};
 ghost use Rattle.domain.specs.Ranges.{IsArea, IsLife, IsSunClass, IsReference};
 
-use crate::regions::Region;
-use crate::types::BuildingType;
+use crate::building_type::BuildingType;
+use crate::region::Region;
 use refusals::Refusal;
 use std::fmt;
 

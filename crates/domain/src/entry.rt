@@ -1,6 +1,6 @@
 //! An entry: how much of something, by which factor, in which row of the accounts.
 
-/// The fields of an entry before its quantity, as they were received: booking checks them.
+/// The row and the span of an entry, and the code of its factor, as they were received: booking checks them.
 #[derive(Clone, Copy, Debug, PartialEq, Eq)]
 pub struct EntryHead {
     /// The number of a row. It may be of no row that exists.
@@ -14,9 +14,9 @@ pub struct EntryHead {
 /// How much of something an entry is for. Booking checks the range.
 #[derive(Clone, Copy, Debug, PartialEq)]
 pub enum Quantity {
-    /// A whole number of thousandths of a unit.
+    /// Whole thousandths of a unit, 0 to 1,000,000,000.
     Counted(u64),
-    /// A number of units.
+    /// Units, 0 to 1,000,000.
     Measured(f64),
 }
 

@@ -1,8 +1,8 @@
 //! A factor: the emissions of one unit of something.
-ghost use Rattle.std.specs.Prelude.{◌≡◌, Some};
+ghost use Rattle.std.specs.Prelude.{Some};
 ghost use Rattle.domain.specs.Ranges.{IsAmount};
 
-use crate::units::FactorUnit;
+use crate::factor_unit::FactorUnit;
 use refusals::Refusal;
 use std::fmt;
 

@@ -3,15 +3,15 @@
 #![tactic(auto)]
 
 mod building;
+mod building_type;
 mod entry;
 mod factor;
-mod regions;
-mod types;
-mod units;
+mod factor_unit;
+mod region;
 
 pub use building::{Building, BuildingNumbers};
+pub use building_type::BuildingType;
 pub use entry::{Entry, EntryHead, Quantity};
 pub use factor::{Factor, FactorNumbers, FactorRow};
-pub use regions::Region;
-pub use types::BuildingType;
-pub use units::FactorUnit;
+pub use factor_unit::FactorUnit;
+pub use region::Region;

@@ -3,7 +3,7 @@ use Rattle.std.proofs.Common.{◌≡◌, ℕ, ◌+◌, ◌*◌, ◌<◌, ◌≤�
 use lib.IntN.{+ℤ_idr}
 use lib.Signed.{shr_z, pos-nat_abs, yes_non_neg}
 use Rattle.std.proofs.lemmas.Int.{ints, by_lt_z}
-use Rattle.exact.specs.Rounding.{Fraction, over, HasDivisor, IsNoLarger, IsSame, IsWithinHalf, IsNearest, nearest_whole, rounded_quotient, IsRounding}
+use Rattle.exact.specs.Rounding.{Fraction, over, HasPositiveDivisor, IsNoLarger, IsSame, IsWithinHalf, IsNearest, nearest_whole, rounded_quotient, IsRounding}
 use Rattle.exact.proofs.Products.{scale_le, twice, apart, step, doubled, scaled}
 
 -- a number rounded down
@@ -16,7 +16,7 @@ bounded : {r : ℤ} {x : Fraction} → (pos 2 *ℤ (r *ℤ pos x.divisor)) ≤�
 bounded least strict = record { near = record { least = least; most = omega (arith, ints, strict) }; upper = λ half. omega (arith, ints, strict, half) }
 
 -- rounding gives a nearest number
-pub is_nearest : (x : Fraction) → HasDivisor x → IsNearest (nearest_whole x) x
+pub is_nearest : (x : Fraction) → HasPositiveDivisor x → IsNearest (nearest_whole x) x
 unfolding nearest_whole
 is_nearest x h =
     let f = floors (pos 2 *ℤ x.numerator +ℤ pos x.divisor) (2 * x.divisor) (omega arith) in
@@ -32,7 +32,7 @@ no_larger : {r s : ℤ} {x : Fraction} → IsNearest r x → IsNearest s x → s
 no_larger {r} {s} {x} a b = by_lt_z r s (λ l. let e = step x.divisor l in let p = below a in absurd (omega (arith, ints, b.near.least))) (λ l. l)
 
 -- a number nearest to x is the one that rounding gives
-only : {r : ℤ} {x : Fraction} → HasDivisor x → IsNearest r x → r ≡ nearest_whole x
+only : {r : ℤ} {x : Fraction} → HasPositiveDivisor x → IsNearest r x → r ≡ nearest_whole x
 only {x} h a = omega (arith, ints, no_larger a (is_nearest x h), no_larger (is_nearest x h) a)
 
 -- a fraction with numerator and divisor multiplied has the same nearest number
@@ -47,7 +47,7 @@ nearest_scaled {r} {x} k h a =
     bounded (omega (arith, ints, scale_le k a.near.least, apart n2 (pos d) k, left, right)) (omega (arith, ints, scale_le k more, apart n2 (pos 1) k, apart rd (pos d) k, left, right))
 
 -- a larger fraction has no smaller nearest number
-pub nearest_mono : (x y : Fraction) → HasDivisor x → HasDivisor y → IsNoLarger x y → nearest_whole x ≤ℤ nearest_whole y
+pub nearest_mono : (x y : Fraction) → HasPositiveDivisor x → HasPositiveDivisor y → IsNoLarger x y → nearest_whole x ≤ℤ nearest_whole y
 nearest_mono x y hx hy le =
     let c = x.divisor in
     let d = y.divisor in
@@ -57,7 +57,7 @@ nearest_mono x y hx hy le =
     by_lt_z (nearest_whole y) (nearest_whole x) (λ l. let e = step (c * d) l in absurd (omega (arith, ints, mul_comm d c))) (λ l. l)
 
 -- equal fractions have the same nearest number
-pub nearest_same : (x y : Fraction) → HasDivisor x → HasDivisor y → IsSame x y → nearest_whole x ≡ nearest_whole y
+pub nearest_same : (x y : Fraction) → HasPositiveDivisor x → HasPositiveDivisor y → IsSame x y → nearest_whole x ≡ nearest_whole y
 nearest_same x y hx hy e =
     let a = nearest_mono x y hx hy (omega (arith, ints)) in
     let b = nearest_mono y x hy hx (omega (arith, ints)) in

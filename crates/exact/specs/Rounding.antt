@@ -12,8 +12,8 @@ abbrev pub over : ℤ → ℕ → Fraction
 over n d = record { numerator = n; divisor = d }
 
 -- the divisor of x is positive
-abbrev pub HasDivisor : Fraction → Type 0
-HasDivisor x = 0 < x.divisor
+abbrev pub HasPositiveDivisor : Fraction → Type 0
+HasPositiveDivisor x = 0 < x.divisor
 
 -- x is no larger than y
 abbrev pub IsNoLarger : Fraction → Fraction → Type 0
@@ -37,7 +37,7 @@ pub record IsNearest (r : ℤ) (x : Fraction) : Type 0 where
   pub near : IsWithinHalf r x
   pub upper : IsHalfAbove r x → ⊥
 
--- the whole number nearest to x, a half going up: x plus a half, rounded down
+-- the whole number nearest to x, a half going up: x plus a half, rounded down; `shr_z n d` is n / d rounded down
 unfoldable pub nearest_whole : Fraction → ℤ
 nearest_whole x = shr_z (pos 2 *ℤ x.numerator +ℤ pos x.divisor) (2 * x.divisor)
 
@@ -48,7 +48,7 @@ rounded_quotient n d = unsigned_abs (nearest_whole (over (pos n) d))
 -- the laws of rounding: only the nearest number is given, a whole number stays as it is, and a larger fraction never
 -- gives a smaller number
 pub record IsRounding (round : Fraction → ℤ) : Type 0 where
-  pub is_nearest : (x : Fraction) → HasDivisor x → IsNearest (round x) x
-  pub only : (x : Fraction) (r : ℤ) → HasDivisor x → IsNearest r x → r ≡ round x
+  pub is_nearest : (x : Fraction) → HasPositiveDivisor x → IsNearest (round x) x
+  pub only : (x : Fraction) (r : ℤ) → HasPositiveDivisor x → IsNearest r x → r ≡ round x
   pub stays : (r : ℤ) (d : ℕ) → 0 < d → round (over (r *ℤ pos d) d) ≡ r
-  pub monotone : (x y : Fraction) → HasDivisor x → HasDivisor y → IsNoLarger x y → round x ≤ℤ round y
+  pub monotone : (x y : Fraction) → HasPositiveDivisor x → HasPositiveDivisor y → IsNoLarger x y → round x ≤ℤ round y

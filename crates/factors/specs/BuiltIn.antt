@@ -3,7 +3,7 @@ use Rattle.std.specs.Prelude.{ℕ, ◌-◌, ◌*◌, if◌then◌else◌, List, 
 use Rattle.domain.specs.declared.factor.FactorNumbers.{FactorNumbers}
 use Rattle.factors.specs.Maps.{FactorMap, has, lacks}
 use Rattle.domain.specs.Numbers.{unit_number}
-use Rattle.domain.specs.declared.units.FactorUnit.TheVariants.{KilowattHour, Kilogram}
+use Rattle.domain.specs.declared.factor_unit.FactorUnit.TheVariants.{KilowattHour, Kilogram}
 
 -- the global warming potentials of the refrigerants, as multiples of that of carbon dioxide
 abbrev pub warming_potentials : List ℕ

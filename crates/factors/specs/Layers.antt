@@ -7,7 +7,7 @@ use Rattle.domain.specs.declared.factor.FactorRow.{FactorRow}
 use Rattle.factors.specs.Lists.{list_map}
 use Rattle.factors.specs.Maps.{FactorAnswer, FactorMap, has, lacks}
 use Rattle.domain.specs.Numbers.{unit_number}
-use Rattle.domain.specs.declared.units.FactorUnit.TheVariants.{Tonne}
+use Rattle.domain.specs.declared.factor_unit.FactorUnit.TheVariants.{Tonne}
 
 -- a if it is a factor, otherwise b if that is a factor, and otherwise the lack of a
 abbrev pub or_else : FactorAnswer → FactorAnswer → FactorAnswer

@@ -6,7 +6,7 @@ ghost use Rattle.factors.specs.Layers.{half_factor, recycled_map};
 use crate::lack::Lack;
 use crate::source::FactorSource;
 use domain::{Factor, FactorUnit};
-use exact::Ratio;
+use exact::Fraction;
 
 // The code of a recycled material is that of the new material plus this.
 const RECYCLED: u32 = 1_000_000;
@@ -40,7 +40,7 @@ impl<S: FactorSource> FactorSource for Recycled<S> {
 fn halved(new: Factor) -> Factor
     ensures { factor_numbers result ≡ half_factor (factor_numbers new) }
 {
-    let half = Ratio {
+    let half = Fraction {
         numerator: i64::from(new.amount),
         divisor: 2,
     };

@@ -6,7 +6,7 @@ use Rattle.std.specs.List.{flat_map, All}
 use Rattle.feed.specs.declared.reader.Part.{Part}
 use Rattle.feed.specs.declared.reader.Reader.{Reader}
 use Rattle.refusals.proofs.Numbers.{number_one}
-use Rattle.feed.specs.Feeds.{ReaderAnswer, part_bytes, rest_of, HandsOut, Stays, IsSpent, AnswersNext, ReaderHistory, opened, called, handed_parts, AreConsecutive, IsRepeated, EndsTruly, IsLawfulReader}
+use Rattle.feed.specs.Feeds.{ReaderAnswer, part_bytes, rest_of, HandsOut, Stays, IsEndAnswer, AnswersNext, ReaderHistory, opened, called, handed_parts, AreConsecutive, IsRepeated, EndsTruly, IsLawfulReader}
 use Rattle.feed.specs.Frames.{IsOneNote, rest_after_first}
 use Rattle.feed.proofs.Framing.{one_first, first_whole}
 
@@ -40,7 +40,7 @@ record SoFar (feed : List ℕ) (answers : List ReaderAnswer) (r : Reader) : Type
   ends : EndsTruly answers (rest_of r)
 
 -- where a call returned no note, the next call returns the same
-same_again : (r t : Reader) (a b : ReaderAnswer) → IsSpent b (rest_of r) → AnswersNext r a t → a ≡ b
+same_again : (r t : Reader) (a b : ReaderAnswer) → IsEndAnswer b (rest_of r) → AnswersNext r a t → a ≡ b
 same_again r t a (Ok (Some p)) spent step = absurd spent
 same_again r t (Ok (Some q)) (Ok None) spent step = let e = ap length spent in absurd (omega (arith, step.framed.head))
 same_again r t (Ok None) (Ok None) spent step = refl

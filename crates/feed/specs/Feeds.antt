@@ -49,16 +49,16 @@ pub record Stays (r t : Reader) : Type 0 where
   pub notes : t.handed_out ≡ r.handed_out
 
 -- the result is no note, and is right about what is left: no byte is left, or the bytes left do not begin with a note
-abbrev pub IsSpent : ReaderAnswer → List ℕ → Type 0
-IsSpent (Ok (Some p)) rest = ⊥
-IsSpent (Ok None) rest = rest ≡ []
-IsSpent (Err f) rest = (0 < length rest) × (IsFramed rest → ⊥) × (refusal_number f ≡ refusal_number Unframed)
+abbrev pub IsEndAnswer : ReaderAnswer → List ℕ → Type 0
+IsEndAnswer (Ok (Some p)) rest = ⊥
+IsEndAnswer (Ok None) rest = rest ≡ []
+IsEndAnswer (Err f) rest = (0 < length rest) × (IsFramed rest → ⊥) × (refusal_number f ≡ refusal_number Unframed)
 
 -- a call of `next` of the reader r has this result, and leaves it as t
 abbrev pub AnswersNext : Reader → ReaderAnswer → Reader → Type 0
 AnswersNext r (Ok (Some p)) t = HandsOut r p t
-AnswersNext r (Ok None) t = IsSpent (Ok None) (rest_of r) × Stays r t
-AnswersNext r (Err f) t = IsSpent (Err f) (rest_of r) × Stays r t
+AnswersNext r (Ok None) t = IsEndAnswer (Ok None) (rest_of r) × Stays r t
+AnswersNext r (Err f) t = IsEndAnswer (Err f) (rest_of r) × Stays r t
 
 -- the reader r hands out the next note, if what is left begins with one, and is t afterwards
 abbrev pub HandsOutNote : Reader → Option Part → Reader → Type 0
@@ -103,7 +103,7 @@ IsRepeated (a ∷ b ∷ before) = UnlessNote b (a ≡ b) × IsRepeated (b ∷ be
 -- the last result, if it is no note, is right about what is left
 abbrev pub EndsTruly : List ReaderAnswer → List ℕ → Type 0
 EndsTruly [] rest = Unit {0}
-EndsTruly (a ∷ before) rest = UnlessNote a (IsSpent a rest)
+EndsTruly (a ∷ before) rest = UnlessNote a (IsEndAnswer a rest)
 
 -- the law of a reader: the notes it handed out, followed by what is left, are the feed; each is one note, in its place;
 -- and once a result is no note, it is right and stays

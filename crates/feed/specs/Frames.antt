@@ -1,6 +1,6 @@
 -- The frame of a note: its length and its kind.
 use Rattle.std.specs.Prelude.{◌≡◌, ℕ, ◌≤◌, List, length, take, drop}
-use Rattle.feed.specs.declared.frame.Head.{Head}
+use Rattle.feed.specs.declared.frame.NoteHead.{NoteHead}
 use Rattle.feed.specs.Fields.{field}
 
 -- the bytes begin with a whole note: there are at least four, and the length that the first two give is at least 4 and
@@ -28,5 +28,5 @@ abbrev pub note_kind : List ℕ → ℕ
 note_kind note = field note 2 2
 
 -- head has the length and the kind of the note
-abbrev pub IsHead : List ℕ → Head → Type 0
-IsHead note head = (head.length ≡ length note) × (head.kind ≡ note_kind note)
+abbrev pub IsNoteHead : List ℕ → NoteHead → Type 0
+IsNoteHead note head = (head.length ≡ length note) × (head.kind ≡ note_kind note)

@@ -4,7 +4,7 @@ use Rattle.feed.specs.declared.kind.Kind.{Kind}
 use Rattle.feed.specs.declared.kind.Kind.TheVariants.{Building, Factor, Counted, Measured, Withdrawal}
 use Rattle.feed.specs.Frames.{note_kind}
 use Rattle.refusals.specs.declared.refusal.Refusal.{Refusal}
-use Rattle.refusals.specs.declared.refusal.Refusal.TheVariants.{UnwantedKind}
+use Rattle.refusals.specs.declared.refusal.Refusal.TheVariants.{UnexpectedKind}
 use Rattle.refusals.specs.Refusals.{GivesOrRefusesBy}
 
 abbrev pub kind_number : Kind → ℕ
@@ -53,4 +53,4 @@ IsOfKind kind note = kind_of_note note ≡ Some kind
 
 -- r is the kind that has the number n, and where there is none the refusal of an unwanted kind
 abbrev pub DecodesKind : ℕ → Result Kind Refusal → Type 0
-DecodesKind n r = GivesOrRefusesBy (IsSome (kind_of n)) UnwantedKind (λ kind. kind_of n ≡ Some kind) r
+DecodesKind n r = GivesOrRefusesBy (IsSome (kind_of n)) UnexpectedKind (λ kind. kind_of n ≡ Some kind) r

@@ -1,7 +1,7 @@
 -- Reading the first note of bytes: when it is refused, and which value it gives.
 use Rattle.std.specs.Prelude.{◌≡◌, ℕ, List, [], ◌∷◌, ◌++◌, length, Option, IsSomeAnd, IfSome, Result}
 use Rattle.refusals.specs.declared.refusal.Refusal.{Refusal}
-use Rattle.refusals.specs.declared.refusal.Refusal.TheVariants.{Unframed, UnwantedKind, WrongLength, OutOfRange}
+use Rattle.refusals.specs.declared.refusal.Refusal.TheVariants.{Unframed, UnexpectedKind, WrongLength, OutOfRange}
 use Rattle.refusals.specs.Refusals.{refusal_number, Conditions, GivesOrRefuses}
 use Rattle.domain.specs.declared.building.Building.{Building}
 use Rattle.domain.specs.declared.factor.FactorRow.{FactorRow}
@@ -28,7 +28,7 @@ HasFieldsInRange kind note = Unit {0}
 -- fields are in range
 abbrev pub form_conditions : (Kind → Type 0) → Option Kind → List ℕ → Conditions
 form_conditions Wanted kind note =
-    (refusal_number UnwantedKind, IsSomeAnd kind Wanted)
+    (refusal_number UnexpectedKind, IsSomeAnd kind Wanted)
     ∷ (refusal_number WrongLength, IfSome kind (λ k. length note ≡ note_length k))
     ∷ (refusal_number OutOfRange, IfSome kind (λ k. HasFieldsInRange k note))
     ∷ []

@@ -24,14 +24,14 @@ pub fn read_building(bytes: &[u8]) -> Result<Building, Refusal>
 impl Content for Building {
     ghost use Rattle.feed.specs.BuildingFields.{IsBuilding};
 
-    ghost Wanted = { λ kind. kind ≡ BuildingNote };
+    ghost wanted = { λ kind. kind ≡ BuildingNote };
 
-    ghost Says = { IsBuilding };
+    ghost says = { IsBuilding };
 
     fn of_note(kind: Kind, note: &[u8]) -> Result<Building, Refusal> {
         match kind {
             Kind::Building => numbers(checked_length(kind, note)?).try_into(),
-            _ => Err(Refusal::UnwantedKind),
+            _ => Err(Refusal::UnexpectedKind),
         }
     }
 }

@@ -14,24 +14,24 @@ use refusals::Refusal;
 // A value that notes of some kinds are read as.
 pub(crate) trait Content: Sized {
     // The kinds that are read.
-    ghost Wanted: { Kind → Type 0 };
+    ghost wanted: { Kind → Type 0 };
 
     // The value that a note gives.
-    ghost Says: { List ℕ → Self → Type 0 };
+    ghost says: { List ℕ → Self → Type 0 };
 
     // The value of a note, if its kind is one that is read, its length is that of its kind, and its fields are in
     // range.
     fn of_note(kind: Kind, note: &[u8]) -> Result<Self, Refusal>
         requires { IsOfKind kind note.now }
-        ensures { GivesOrRefuses (form_conditions Wanted (Some kind) note.now) (Says note.now) result };
+        ensures { GivesOrRefuses (form_conditions wanted (Some kind) note.now) (says note.now) result };
 }
 
-// Reads the first note of the bytes. The public calls `read_building`, `read_row`, `Note::read` and `SentNote::read`
+// Reads the first note of the bytes. The public calls `read_building`, `read_factor_row`, `Note::read` and `SentNote::read`
 // are all this one.
 #[tactic(auto, using(crate::proofs::Reading::headed, crate::proofs::Reading::reads_alone))]
 pub(crate) fn read<T: Content>(bytes: &[u8]) -> Result<T, Refusal>
-    ensures value { Reads T.Wanted T.Says bytes.now result }
-    ensures alone { IsFramed bytes.now → Reads T.Wanted T.Says (first_note bytes.now) result }
+    ensures value { Reads T.wanted T.says bytes.now result }
+    ensures alone { IsFramed bytes.now → Reads T.wanted T.says (first_note bytes.now) result }
 {
     let note = first_note(bytes)?;
     let kind = Kind::try_from(kind_field(note))?;

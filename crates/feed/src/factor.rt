@@ -8,7 +8,7 @@ ghost use Rattle.feed.specs.Readings.{ReadsFactorRow};
 ghost use Rattle.feed.specs.FactorRows.{StartsWithFactorRow};
 
 use crate::content::{Content, checked_length, read};
-use crate::frame::Head;
+use crate::frame::NoteHead;
 use crate::kind::Kind;
 use crate::little_endian::number_at;
 use domain::{Factor, FactorNumbers, FactorRow};
@@ -27,15 +27,15 @@ pub fn read_factor_row(bytes: &[u8]) -> Result<FactorRow, Refusal>
 pub(crate) fn factor_row_is_next(bytes: &[u8]) -> bool
     ensures { IsTrue result ↔ StartsWithFactorRow bytes.now }
 {
-    Head::read(bytes).is_ok_and(|head| head.kind == u16::from(Kind::Factor))
+    NoteHead::read(bytes).is_ok_and(|head| head.kind == u16::from(Kind::Factor))
 }
 
 impl Content for FactorRow {
     ghost use Rattle.feed.specs.FactorFields.{IsFactorRow};
 
-    ghost Wanted = { λ kind. kind ≡ FactorNote };
+    ghost wanted = { λ kind. kind ≡ FactorNote };
 
-    ghost Says = { IsFactorRow };
+    ghost says = { IsFactorRow };
 
     fn of_note(kind: Kind, note: &[u8]) -> Result<FactorRow, Refusal> {
         match kind {
@@ -44,7 +44,7 @@ impl Content for FactorRow {
                 Factor::try_from(row.factor)?;
                 Ok(row)
             }
-            _ => Err(Refusal::UnwantedKind),
+            _ => Err(Refusal::UnexpectedKind),
         }
     }
 }

@@ -1,6 +1,6 @@
 //! The frame of a note: its length and its kind, which come before its fields.
 ghost use Rattle.std.specs.Prelude.{◌≡◌, ◌≤◌, length};
-ghost use Rattle.feed.specs.Frames.{first_note, note_kind, IsHead};
+ghost use Rattle.feed.specs.Frames.{first_note, note_kind, IsNoteHead};
 ghost use Rattle.feed.specs.Readings.{framing_conditions};
 ghost use Rattle.refusals.specs.Refusals.{GivesOrRefuses};
 
@@ -37,20 +37,20 @@ pub(crate) fn kind_field(note: &[u8]) -> u16
 
 /// The length and the kind of a note.
 #[derive(Clone, Copy, Debug, PartialEq, Eq)]
-pub struct Head {
+pub struct NoteHead {
     /// The length of the whole note in bytes, at least 4.
     pub length: usize,
     /// The number of its kind. It may be of no kind that exists.
     pub kind: u16,
 }
 
-impl Head {
+impl NoteHead {
     /// Reads the head of the first note of the bytes. Refused by `Unframed` (1).
-    pub fn read(bytes: &[u8]) -> Result<Head, Refusal>
-        ensures { GivesOrRefuses (framing_conditions bytes.now) (IsHead (first_note bytes.now)) result }
+    pub fn read(bytes: &[u8]) -> Result<NoteHead, Refusal>
+        ensures { GivesOrRefuses (framing_conditions bytes.now) (IsNoteHead (first_note bytes.now)) result }
     {
         let note = first_note(bytes)?;
-        Ok(Head {
+        Ok(NoteHead {
             length: note.len(),
             kind: kind_field(note),
         })

@@ -1,8 +1,7 @@
 //! The kinds of notes: their numbers, their lengths and their words.
-ghost use Rattle.std.specs.Prelude.{◌≡◌, Some, IsSome};
+ghost use Rattle.std.specs.Prelude.{◌≡◌, Some};
 ghost use Rattle.feed.specs.Kinds.{kind_number, DecodesKind, note_length, kind_word};
-ghost use Rattle.refusals.specs.declared.refusal.Refusal.TheVariants.{UnwantedKind};
-ghost use Rattle.refusals.specs.Refusals.{GivesOrRefusesBy};
+ghost use Rattle.refusals.specs.declared.refusal.Refusal.TheVariants.{UnexpectedKind};
 
 use refusals::Refusal;
 use std::fmt;
@@ -49,7 +48,7 @@ impl TryFrom<u16> for Kind {
             3 => Ok(Kind::Counted),
             4 => Ok(Kind::Measured),
             5 => Ok(Kind::Withdrawal),
-            _ => Err(Refusal::UnwantedKind),
+            _ => Err(Refusal::UnexpectedKind),
         }
     }
 }

@@ -18,7 +18,7 @@ mod sent_note;
 pub use building::read_building;
 pub use entry::{SentEntry, SentQuantity};
 pub use factor::read_factor_row;
-pub use frame::{Head, first_note};
+pub use frame::{NoteHead, first_note};
 pub use input::{MAX_FEED_BYTES, read_feed};
 pub use kind::Kind;
 pub use note::Note;

@@ -32,9 +32,9 @@ impl Note {
 }
 
 impl Content for Note {
-    ghost Wanted = { IsAnyKind };
+    ghost wanted = { IsAnyKind };
 
-    ghost Says = { Says };
+    ghost says = { Says };
 
     fn of_note(kind: Kind, note: &[u8]) -> Result<Note, Refusal> {
         match kind {

@@ -56,7 +56,7 @@ impl<'a> Opening<'a> {
         let building = read_building(feed)?;
         // The first note is the building.
         let mut rest = Reader::new(feed);
-        rest.next()?;
+        rest.try_next()?;
         let mut rows = Vec::new(alloc);
         while let Some(note) = rest.next_factor_row() {
             rows.push(read_factor_row(note.bytes))?;

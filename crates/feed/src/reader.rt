@@ -1,5 +1,5 @@
 //! A reader that hands out the notes of a feed one after the other.
-ghost use Rattle.std.specs.Prelude.{ℕ, ◌≤◌, List, ◌∷◌, length};
+ghost use Rattle.std.specs.Prelude.{◌≤◌, length};
 
 use crate::factor::factor_row_is_next;
 use crate::frame::first_note;
@@ -46,7 +46,7 @@ impl<'a> Reader<'a> {
     /// Hands out the next note, or `None` where no byte is left. Refused by `Unframed` (1) where the bytes left do not
     /// begin with a whole note. After `None` or a refusal the reader is unchanged, and every further call returns the
     /// same. No `Iterator`, since it would return the same refusal without end.
-    pub fn next(&mut self) -> Result<Option<Part<'a>>, Refusal>
+    pub fn try_next(&mut self) -> Result<Option<Part<'a>>, Refusal>
         ensures value { AnswersNext self.old result self.new }
         ensures law { KeepsReaderLaw self.old result self.new }
     {
@@ -64,7 +64,7 @@ impl<'a> Reader<'a> {
     pub fn next_note(&mut self) -> Option<Part<'a>>
         ensures { HandsOutNote self.old result self.new }
     {
-        self.next().unwrap_or(None)
+        self.try_next().unwrap_or(None)
     }
 
     /// Hands out the next note if it is of the kind of factor rows. Otherwise the result is `None`, and the reader is
@@ -73,7 +73,7 @@ impl<'a> Reader<'a> {
         ensures { HandsOutFactorRow self.old result self.new }
     {
         if factor_row_is_next(self.rest().bytes) {
-            self.next().ok().flatten()
+            self.try_next().ok().flatten()
         } else {
             None
         }

@@ -1,5 +1,5 @@
 //! Reading a note that is sent into a sheet.
-ghost use Rattle.std.specs.Prelude.{◌≡◌, ◌≤◌, length};
+ghost use Rattle.std.specs.Prelude.{◌≡◌, length};
 ghost use Rattle.feed.specs.Frames.{IsFramed, first_note};
 ghost use Rattle.feed.specs.Kinds.{IsOfKind, note_length};
 ghost use Rattle.feed.specs.Readings.{Reads};
@@ -82,13 +82,13 @@ impl SentNote {
 }
 
 impl Content for SentNote {
-    ghost Wanted = { IsSent };
+    ghost wanted = { IsSent };
 
-    ghost Says = { SaysSentNote };
+    ghost says = { SaysSentNote };
 
     fn of_note(kind: Kind, note: &[u8]) -> Result<SentNote, Refusal> {
         match kind {
-            Kind::Building | Kind::Factor => Err(Refusal::UnwantedKind),
+            Kind::Building | Kind::Factor => Err(Refusal::UnexpectedKind),
             Kind::Counted | Kind::Measured | Kind::Withdrawal => {
                 Ok(SentNote::from_note(kind, checked_length(kind, note)?))
             }

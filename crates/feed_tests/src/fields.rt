@@ -1,6 +1,6 @@
 //! Tests of each refusal of a building, a factor row and a note, and of each field at its range's ends and one beyond.
 use domain::{Factor, FactorNumbers};
-use feed::{Head, Note, read_building, read_factor_row};
+use feed::{Note, NoteHead, read_building, read_factor_row};
 use refusals::Refusal;
 use std::test::Fail;
 
@@ -97,9 +97,9 @@ fn the_smallest_number(rt: HostRuntime) {
     assert_eq!(rt; refused(read_building(b"")), Some(1));
     assert_eq!(rt; refused(read_factor_row(b"")), Some(1));
     assert_eq!(rt; refused(Note::read(b"")), Some(1));
-    assert_eq!(rt; refused(Head::read(b"\x12\0\x01")), Some(1));
-    assert_eq!(rt; refused(Head::read(b"\x03\0\x01\0")), Some(1));
-    assert_eq!(rt; refused(Head::read(b"\x04\0\x01\0")), None);
+    assert_eq!(rt; refused(NoteHead::read(b"\x12\0\x01")), Some(1));
+    assert_eq!(rt; refused(NoteHead::read(b"\x03\0\x01\0")), Some(1));
+    assert_eq!(rt; refused(NoteHead::read(b"\x04\0\x01\0")), None);
 }
 
 // Notes of every kind that are too long or too short, and notes of unknown kinds. Trailing bytes do not make up for a

@@ -94,7 +94,7 @@ fn of_factor_rows(rt: HostRuntime) -> Result<(), Fail> {
     Ok(())
 }
 
-// The first is let in, and the others repeat it.
+// The first is accepted, and the others repeat it.
 #[test]
 fn of_withdrawals(rt: HostRuntime) -> Result<(), Fail> {
     let alloc = rt.alloc();

@@ -28,7 +28,7 @@ fn cut_at_every_length(rt: HostRuntime) -> Result<(), Fail> {
             if next > n {
                 break;
             }
-            let Ok(Some(part)) = reader.next() else {
+            let Ok(Some(part)) = reader.try_next() else {
                 return Err(Fail::new("a note is missing"));
             };
             assert_eq!(rt; part.place, place);
@@ -41,7 +41,7 @@ fn cut_at_every_length(rt: HostRuntime) -> Result<(), Fail> {
         // Refused by `Unframed` (1).
         let expected = if n == end { Ok(None) } else { Err(1) };
         for _ in 0..3 {
-            assert_eq!(rt; reader.next().map_err(Refusal::number), expected);
+            assert_eq!(rt; reader.try_next().map_err(Refusal::number), expected);
             let left = reader.rest();
             assert_eq!(rt; left.place, notes.wrapping_add(1));
             assert_eq!(rt; left.start, end);

@@ -46,7 +46,7 @@ module _ (y : ℕ) (factor_map : FactorMap) (e : Entry) (cs : Conditions) (kept 
 
 pub refused : IsRefusedBy 1 21
 refused b factor_map e gone late s t r gone_fit first late_fit step =
-    let after = subst (λ x. Sends x late r t) first.let_in step in
+    let after = subst (λ x. Sends x late r t) first.accepted step in
     answer_of b.life factor_map e (content_conditions b.life factor_map late) late_fit.fit r gone_fit.says late_fit.says after.number
 
 module _ (y : ℕ) (factor_map : FactorMap) (late : Entry) (gone back : List ℕ) (gone_fit : IsSentAs y factor_map withdrawal gone) (back_fit : IsSentAs y factor_map (entry_at 1 late) back) where

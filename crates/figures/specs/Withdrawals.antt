@@ -7,7 +7,7 @@ use Rattle.factors.specs.Maps.{FactorMap}
 use Rattle.domain.specs.declared.building.BuildingNumbers.{BuildingNumbers}
 use Rattle.domain.specs.declared.entry.Entry.{Entry}
 use Rattle.sheet.specs.RollNotes.{RollNote}
-use Rattle.sheet.specs.Rolls.{note_of_bytes, AreCounted}
+use Rattle.sheet.specs.Rolls.{roll_note_of_bytes, AreCounted}
 use Rattle.sheet.specs.States.{State, new_state, content_conditions, Sends}
 
 abbrev pub withdrawal : RollNote
@@ -20,7 +20,7 @@ entry_at revision e = record { number = 1; revision = revision; entry = Some e }
 -- the bytes send the note, and its content is fit in a building with a life of y years, at the factors of a map
 pub record IsSentAs (y : ℕ) (factor_map : FactorMap) (note : RollNote) (bs : List ℕ) : Type 0 where
   pub fit : AllHold (content_conditions y factor_map bs)
-  pub says : note_of_bytes bs ≡ note
+  pub says : roll_note_of_bytes bs ≡ note
 
 -- a sheet that was just opened lets the withdrawal in, and then refuses any fit entry at this revision by the number n
 abbrev pub IsRefusedBy : (revision n : ℕ) → Type 0

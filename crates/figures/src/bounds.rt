@@ -38,7 +38,7 @@ fn the_largest_measured_quantity(rt: HostRuntime) {
     let million = Quantity::Measured(1_000_000.0);
     let above = Quantity::Measured(1_000_000.000_000_000_1);
     assert_eq!(rt; thousandths(million), Ok(1_000_000_000));
-    assert_eq!(rt; thousandths(above), Err(Refusal::UnfitQuantity));
+    assert_eq!(rt; thousandths(above), Err(Refusal::InvalidQuantity));
     assert_eq!(rt; outcome(50, 1, million, 1), Ok(100_000));
     assert_eq!(rt; outcome(50, 1, above, 1), Err(7));
 }

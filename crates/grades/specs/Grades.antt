@@ -7,7 +7,7 @@ use Rattle.grades.specs.declared.grading.Grade.TheVariants.{Ungraded, LowCarbon,
 use Rattle.grades.specs.Limits.{Limits, limit, low_carbon_limits, near_zero_limits}
 use Rattle.grades.specs.Ratios.{ratio, low_carbon_ratios, near_zero_ratios}
 use Rattle.domain.specs.Numbers.{type_number}
-use Rattle.domain.specs.declared.types.BuildingType.TheVariants.{Residential}
+use Rattle.domain.specs.declared.building_type.BuildingType.TheVariants.{Residential}
 
 abbrev pub grade_number : Grade → ℕ
 grade_number Ungraded = 0
@@ -34,7 +34,7 @@ LimitHolds (Some l) b w = w ≤ℤ pos (grams_over_life b l)
 
 -- the building is no home and has a reference, and w grams are p per cent below the reference, or further
 pub record RatioHolds (p : ℕ) (b : BuildingNumbers) (w : ℤ) : Type 0 where
-  pub no_home : b.building_type ≡ type_number Residential → ⊥
+  pub not_residential : b.building_type ≡ type_number Residential → ⊥
   pub reference : b.reference ≡ 0 → ⊥
   pub below : (pos 100 *ℤ w) ≤ℤ pos ((100 - p) * grams_over_life b b.reference)
 

@@ -1,5 +1,5 @@
 //! The grade of a building.
-ghost use Rattle.std.specs.Prelude.{◌≡◌, ℕ, ◌↔◌, IsTrue};
+ghost use Rattle.std.specs.Prelude.{◌↔◌, IsTrue};
 ghost use Rattle.domain.specs.Buildings.{numbers_of};
 ghost use Rattle.totals.specs.Sums.{sums_of};
 ghost use Rattle.grades.specs.Grades.{grade_number, energy_emissions, MeetsGrade, IsAwarded, IsOnlyGrade};

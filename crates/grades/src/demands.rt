@@ -45,11 +45,11 @@ fn ratio_holds(ratio: u16, building: &Building, energy_emissions: i64) -> bool
     requires within { IsWithinTotals energy_emissions }
     ensures { IsTrue result ↔ RatioHolds ratio (numbers_of building.now) energy_emissions }
 {
-    has_reference(building) && is_below(ratio, building, energy_emissions)
+    ratio_applies(building) && is_below(ratio, building, energy_emissions)
 }
 
 // Whether the building has a reference that its emissions are compared with.
-fn has_reference(building: &Building) -> bool
+fn ratio_applies(building: &Building) -> bool
     ensures { IsTrue result ↔ ((numbers_of building.now).building_type ≢ 1) × (building.now.reference ≢ 0) }
 {
     building.building_type != BuildingType::Residential && building.reference != NO_REFERENCE

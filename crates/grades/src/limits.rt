@@ -42,7 +42,7 @@ const LOW_CARBON_LIMITS: [LimitRow; 5] = [
     },
 ];
 
-// A region has no limit in a sun class that is not here: the zero-carbon draft has a stroke there, or does not list it.
+// A region has no limit in a sun class that is not here: the zero-carbon draft has a dash there, or does not list it.
 const NEAR_ZERO_LIMITS: [LimitRow; 13] = [
     LimitRow {
         region: Region::SevereCold,

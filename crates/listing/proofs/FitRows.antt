@@ -4,7 +4,7 @@ use Rattle.std.proofs.lemmas.List.{take_more}
 use Rattle.refusals.specs.declared.refusal.Refusal.{Refusal}
 use Rattle.domain.specs.declared.factor.FactorRow.{FactorRow}
 use Rattle.feed.specs.FactorRows.{ReadsEachRow, none as none_read, one as one_read}
-use Rattle.listing.specs.Bases.{KeepsFitRows, none, row, passed}
+use Rattle.listing.specs.Bases.{KeepsFitFactorRows, none, row, passed}
 
 -- the rows among answers
 abbrev pub fit : List (Result FactorRow Refusal) → List FactorRow
@@ -12,7 +12,7 @@ fit [] = []
 fit (Ok r ∷ answers) = r ∷ fit answers
 fit (Err f ∷ answers) = fit answers
 
-pub fit_rows : (notes : List (List ℕ)) (answers : List (Result FactorRow Refusal)) → ReadsEachRow notes answers → KeepsFitRows notes (fit answers)
+pub fit_rows : (notes : List (List ℕ)) (answers : List (Result FactorRow Refusal)) → ReadsEachRow notes answers → KeepsFitFactorRows notes (fit answers)
 fit_rows notes answers none_read = none
 fit_rows notes answers (one_read {notes = others} {r = Ok r} {rs = rs} reads read) = row reads (fit_rows others rs read)
 fit_rows notes answers (one_read {notes = others} {r = Err f} {rs = rs} reads read) = passed f reads (fit_rows others rs read)

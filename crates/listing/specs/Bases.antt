@@ -11,23 +11,23 @@ use Rattle.listing.specs.declared.basis.BookingBasis.{BookingBasis}
 use Rattle.feed.specs.FactorRows.{ReadsEachRow}
 
 -- the factor rows that can be read from notes; refused ones are passed over
-pub data KeepsFitRows : List (List ℕ) → List FactorRow → Type 0 where
-  none : KeepsFitRows [] []
+pub data KeepsFitFactorRows : List (List ℕ) → List FactorRow → Type 0 where
+  none : KeepsFitFactorRows [] []
   row : {note : List ℕ} {notes : List (List ℕ)} {r : FactorRow} {rows : List FactorRow} → ReadsFactorRow note (Ok r)
-      → KeepsFitRows notes rows → KeepsFitRows (note ∷ notes) (r ∷ rows)
+      → KeepsFitFactorRows notes rows → KeepsFitFactorRows (note ∷ notes) (r ∷ rows)
   passed : {note : List ℕ} {notes : List (List ℕ)} {rows : List FactorRow} (f : Refusal) → ReadsFactorRow note (Err f)
-      → KeepsFitRows notes rows → KeepsFitRows (note ∷ notes) rows
+      → KeepsFitFactorRows notes rows → KeepsFitFactorRows (note ∷ notes) rows
 
 -- rows are those among the answers to reading notes as factor rows
 abbrev pub KeepsFitAnswers : List (Result FactorRow Refusal) → List FactorRow → Type 0
-KeepsFitAnswers answers rows = (notes : List (List ℕ)) → ReadsEachRow notes answers → KeepsFitRows notes rows
+KeepsFitAnswers answers rows = (notes : List (List ℕ)) → ReadsEachRow notes answers → KeepsFitFactorRows notes rows
 
 -- a feed begins with its building and the factor rows straight after it, or, where its first note is no building, with
 -- neither
-pub data BeginsWith (feed : List ℕ) : Option Building → List FactorRow → Type 0 where
+pub data HasBasis (feed : List ℕ) : Option Building → List FactorRow → Type 0 where
   building : {rows : List FactorRow} {notes : List (List ℕ)} {left : List ℕ} (b : Building)
-      → OpensWith feed b notes left → KeepsFitRows notes rows → BeginsWith feed (Some b) rows
-  no_building : ((b : Building) → ReadsBuilding feed (Ok b) → ⊥) → BeginsWith feed None []
+      → OpensWith feed b notes left → KeepsFitFactorRows notes rows → HasBasis feed (Some b) rows
+  no_building : ((b : Building) → ReadsBuilding feed (Ok b) → ⊥) → HasBasis feed None []
 
 -- the basis of booking: the building's life in years and the factors, if there is a building
 pub data Basis : Type 0 where
@@ -38,5 +38,6 @@ abbrev pub basis_with : Option Building → List FactorRow → Basis
 basis_with None rows = unbooked
 basis_with (Some b) rows = by b.life (project_map rows)
 
+-- the basis that the code reads from a feed
 abbrev pub basis_of : BookingBasis → Basis
 basis_of b = basis_with b.building (vec_items b.rows)

@@ -5,7 +5,7 @@ use Rattle.domain.specs.declared.factor.FactorRow.{FactorRow}
 use Rattle.feed.specs.Frames.{IsFramed, IsOneNote}
 use Rattle.domain.specs.FieldTexts.{spaced_field}
 use Rattle.listing.specs.ListingLines.{IsLine}
-use Rattle.listing.specs.Bases.{Basis, BeginsWith, basis_with}
+use Rattle.listing.specs.Bases.{Basis, HasBasis, basis_with}
 use Rattle.feed.specs.Feeds.{part_bytes}
 use Rattle.feed.specs.declared.reader.Part.{Part}
 
@@ -29,5 +29,5 @@ pub data Lists (a : Basis) : ℕ → ℕ → List ℕ → List ℕ → Type 0 wh
 pub record ListsFeed (feed text : List ℕ) : Type 0 where
   pub building : Option Building
   pub rows : List FactorRow
-  pub begins : BeginsWith feed building rows
+  pub begins : HasBasis feed building rows
   pub lists : Lists (basis_with building rows) 1 0 feed text

@@ -1,7 +1,6 @@
 //! The basis on which a feed's entries are booked: the building and the factors that it opens with.
-ghost use Rattle.std.specs.Prelude.{IfOk, List, ℕ};
-ghost use Rattle.feed.specs.FactorRows.{ReadsEachRow};
-ghost use Rattle.listing.specs.Bases.{BeginsWith, KeepsFitRows, KeepsFitAnswers};
+ghost use Rattle.std.specs.Prelude.{IfOk};
+ghost use Rattle.listing.specs.Bases.{HasBasis, KeepsFitAnswers};
 
 use domain::{Building, FactorRow};
 use feed::{Opening, OpeningError};
@@ -18,9 +17,9 @@ pub struct BookingBasis {
 }
 
 impl BookingBasis {
-    /// Reads the basis of a feed. It refuses nothing, and errs only where memory fails.
+    /// Reads the basis of a feed. It refuses nothing, and fails only where memory does.
     pub fn read(alloc: Global, feed: &[u8]) -> Result<BookingBasis, AllocError>
-        ensures { IfOk result (λ basis. BeginsWith feed.now basis.building basis.rows.items) }
+        ensures { IfOk result (λ basis. HasBasis feed.now basis.building basis.rows.items) }
     {
         match Opening::read(alloc, feed) {
             Ok(opening) => Ok(BookingBasis {

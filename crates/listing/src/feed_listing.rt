@@ -1,6 +1,6 @@
 //! The listing of a feed.
-ghost use Rattle.std.specs.Prelude.{◌≡◌, ℕ, List, IfOk, string_bytes};
-ghost use Rattle.listing.specs.Listings.{IsLastLine, ListsFeed, IsLastPartLine};
+ghost use Rattle.std.specs.Prelude.{IfOk, string_bytes};
+ghost use Rattle.listing.specs.Listings.{ListsFeed, IsLastPartLine};
 ghost use Rattle.listing.specs.Bases.{basis_of};
 ghost use Rattle.feed.specs.Writing.{IsOnlyText};
 
@@ -26,8 +26,8 @@ pub fn listing(alloc: Global, feed: &[u8]) -> Result<String, AllocError>
     Ok(text)
 }
 
-// The line for the bytes that are left after the last note. It takes the heap and the basis as `part_line` does, since
-// a struct for the two would be no plainer.
+// The line for the bytes that are left after the last note. It takes the allocator and the basis apart, as `part_line`
+// does.
 fn last_line(alloc: Global, basis: &BookingBasis, left: &Part) -> Result<String, AllocError>
     ensures { IfOk result (λ s. IsLastPartLine (basis_of basis.now) left.now (string_bytes s)) }
 {

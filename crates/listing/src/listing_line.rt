@@ -1,5 +1,5 @@
 //! The line of one part of a feed.
-ghost use Rattle.std.specs.Prelude.{◌≡◌, ℕ, List, IfOk, string_bytes};
+ghost use Rattle.std.specs.Prelude.{IfOk, string_bytes};
 ghost use Rattle.listing.specs.ListingLines.{IsPartLine};
 ghost use Rattle.listing.specs.Bases.{basis_of};
 ghost use Rattle.feed.specs.Writing.{IsOnlyText};

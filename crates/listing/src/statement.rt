@@ -6,7 +6,7 @@ ghost use Rattle.listing.specs.StatementTexts.{statement_text};
 
 use crate::basis::BookingBasis;
 use crate::outcome::Outcome;
-use feed::{Head, Kind, Note};
+use feed::{Kind, Note, NoteHead};
 use refusals::Refusal;
 use std::fmt;
 
@@ -15,7 +15,7 @@ pub(crate) enum Statement {
     // A note, and what it is booked at if it is an entry.
     Note(Note, Option<Outcome>),
     // The head of a note that is refused, and its refusal.
-    Refused(Head, Refusal),
+    Refused(NoteHead, Refusal),
     // The number of bytes that frame no note, and their refusal.
     Unframed(usize, Refusal),
 }
@@ -26,7 +26,7 @@ impl Statement {
     {
         match Note::read(bytes) {
             Ok(note) => Statement::Note(note, basis.outcome(&note)),
-            Err(refusal) => match Head::read(bytes) {
+            Err(refusal) => match NoteHead::read(bytes) {
                 Ok(head) => Statement::Refused(head, refusal),
                 Err(_) => Statement::Unframed(bytes.len(), refusal),
             },

@@ -1,6 +1,6 @@
 //! Reading a feed and writing its listing.
-ghost use Rattle.std.specs.Prelude.{IfOk, IfSome, OnOk, string_bytes};
-ghost use Rattle.feed.specs.Writing.{WritesText, WritesFor};
+ghost use Rattle.std.specs.Prelude.{IfOk, OnOk, string_bytes};
+ghost use Rattle.feed.specs.Writing.{WritesFor};
 ghost use Rattle.listing.specs.WrittenListings.{ListsOrRefuses, IsListing};
 
 use crate::feed_listing::listing;

@@ -4,7 +4,7 @@ use Rattle.std.specs.List.{range_with_len}
 use Rattle.std.proofs.lemmas.Int.{ints, to_z-of_z, fits_signed_from_abs}
 use Rattle.std.proofs.lemmas.List.{drop_more, set_at}
 use Rattle.std.proofs.lemmas.List.FromFn.{map-range_with_len_more, length-map-range_with_len}
-use Rattle.totals.specs.Sizes.{max_size}
+use Rattle.totals.specs.Sizes.{max_total_grams}
 use Rattle.totals.specs.Sums.{sums_of}
 use Rattle.totals.specs.declared.totals.Totals.{Totals}
 use Rattle.totals.proofs.Adding.{whole, natural, held}
@@ -21,7 +21,7 @@ read_back : (z : ℤ) → unsigned_abs z < 2 ^ 63 → held z ≡ z
 read_back z h = to_z-of_z w64 z (fits_signed_from_abs w64 z h)
 
 -- the kilograms of grams within the bound are far from wrapping
-small_kilograms : (g : ℤ) → unsigned_abs g ≤ max_size → unsigned_abs (whole_kilograms g) ≤ 51200000000001
+small_kilograms : (g : ℤ) → unsigned_abs g ≤ max_total_grams → unsigned_abs (whole_kilograms g) ≤ 51200000000001
 small_kilograms g h = let r = is_rounded g in omega (arith, ints, r.least, r.most)
 
 -- one more figure after those that are written
@@ -34,11 +34,11 @@ figure_more f k before l =
 -- totals, and a cut with n headings
 pub record Page (cut : Assignment) (t : Totals) (n : ℕ) : Type 0 where
   pub cutting : Cutting cut (sums_of t)
-  pub sized : cut.size ≡ n
+  pub size_is_headings : cut.size ≡ n
 
 -- such a page, from its parts
 pub page : {cut : Assignment} {n : ℕ} (t : Totals) → IsCut cut → cut.size ≡ n → length t.grams ≡ 22 → length t.counts ≡ 22 → Page cut t n
-page t lawful sized g c = record { cutting = record { lawful = lawful; adds = additive_sums t g c }; sized = sized }
+page t lawful size_is_headings g c = record { cutting = record { lawful = lawful; adds = additive_sums t g c }; size_is_headings = size_is_headings }
 
 -- any neighbouring headings are near the sum of their grams
 pub near_page : {cut : Assignment} {t : Totals} {n : ℕ} → Page cut t n → NeighboursAreNear cut (sums_of t)
@@ -69,7 +69,7 @@ none_drawn headed room =
 
 module _ {cut : Assignment} {t u : Totals} {n : ℕ} {before figures : List Figure} {z : ℤ} {total : Figure} {k : ℕ} (drawn : Drawn cut t u n before figures z total k) where
   -- running sums do not wrap
-  in_bounds : (j : ℕ) → unsigned_abs (running_sum cut (sums_of t) j) ≤ max_size
+  in_bounds : (j : ℕ) → unsigned_abs (running_sum cut (sums_of t) j) ≤ max_total_grams
   in_bounds j = grams_within t (up_to cut j)
 
   small : (j : ℕ) → unsigned_abs (whole_kilograms (running_sum cut (sums_of t) j)) ≤ 51200000000001
@@ -82,7 +82,7 @@ module _ {cut : Assignment} {t u : Totals} {n : ℕ} {before figures : List Figu
   module _ (within : k < n) where
     -- there are at most 22 headings
     in_place : k < 22
-    in_place = omega (arith, drawn.headed.page.cutting.lawful.few, drawn.headed.page.sized)
+    in_place = omega (arith, drawn.headed.page.cutting.lawful.few, drawn.headed.page.size_is_headings)
 
     -- the count of the next heading
     counts_at : get_or u.counts k 0 ≡ (heading_sums cut (sums_of t)).counts (λ h. nat_eq h (k + 1))
@@ -146,7 +146,7 @@ module _ {cut : Assignment} {t u : Totals} {n : ℕ} {before figures : List Figu
 
   module _ (all : k ≡ n) where
     size_is : k ≡ cut.size
-    size_is = all ∙ sym drawn.headed.page.sized
+    size_is = all ∙ sym drawn.headed.page.size_is_headings
 
     -- after the last heading, the total is that of the page
     total_is : total ≡ total_figure (sums_of t)
@@ -159,7 +159,7 @@ module _ {cut : Assignment} {t u : Totals} {n : ℕ} {before figures : List Figu
     pub all_drawn : Writes cut (sums_of t) before (Ok total) figures
     unfolding page_figures
     all_drawn = record {
-      answer = ((omega (arith, drawn.room, drawn.headed.page.sized), tt), total_is);
+      answer = ((omega (arith, drawn.room, drawn.headed.page.size_is_headings), tt), total_is);
       places = drawn.figures_are ∙ ap (λ j. map (heading_figure cut (sums_of t)) (range_with_len 1 j) ++ drop j before) size_is;
     }
 

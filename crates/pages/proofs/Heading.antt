@@ -10,7 +10,7 @@ use Rattle.booking.specs.Rows.{row_number}
 use Rattle.domain.specs.Ranges.{IsBetween}
 use Rattle.pages.specs.Cuts.{Assignment, IsCut}
 use Rattle.pages.specs.Pages.{heading_sums}
-use Rattle.totals.specs.Sizes.{max_size}
+use Rattle.totals.specs.Sizes.{max_total_grams}
 use Rattle.totals.specs.Sums.{sum_in, numbered_rows, sums_of}
 use Rattle.totals.specs.declared.totals.Totals.{Totals}
 use Rattle.totals.proofs.Adding.{Adds, whole, natural, part, added, one_more, nothing, no_more, sums_in, size_most, held, in_bounds_fits, in_bounds_kept, sizes_added, counts_added}
@@ -82,7 +82,7 @@ none_yet g n = record { grams_moved = moved_none whole g; counts_moved = moved_n
 
 module _ {cut : Assignment} {t : Totals} {grams : List ℤ} {counts : List ℕ} {i h : ℕ} (so_far : SoFar cut t grams counts i) (at : HeadingAt cut i h) where
   -- the value of the heading and the one that is added are together within the bound
-  sizes : unsigned_abs (get_or grams (h - 1) (pos 0)) + unsigned_abs (get_or t.grams i (pos 0)) ≤ max_size
+  sizes : unsigned_abs (get_or grams (h - 1) (pos 0)) + unsigned_abs (get_or t.grams i (pos 0)) ≤ max_total_grams
   sizes =
       omega (arith, size_most grams (h - 1) (pos 0) (omega (arith, so_far.grams_moved.places, at.within)), sum_by-drop_more unsigned_abs t.grams i (pos 0) (omega (arith, so_far.grams_moved.rows, at.row)), so_far.in_bounds, t.grams_within)
 

@@ -77,9 +77,9 @@ pub record IsNearGrams (kg g : ℤ) : Type 0 where
   pub least : g <ℤ (pos 1000 *ℤ kg +ℤ pos 1000)
   pub most : (pos 1000 *ℤ kg) <ℤ (g +ℤ pos 1000)
 
--- whatever headings side by side are taken, their kilograms as printed are near the grams under them
+-- any neighbouring headings: their kilograms as printed are near the grams under them
 abbrev pub NeighboursAreNear : Assignment → Sums → Type 0
 NeighboursAreNear cut sums =
     (i j : ℕ) → i ≤ j → j ≤ cut.size
     → IsNearGrams (printed_kilograms (figures_between i j (page_figures cut sums)))
-        ((heading_sums cut sums).grams (is_between i j))
+    ((heading_sums cut sums).grams (is_between i j))

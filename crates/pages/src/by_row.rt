@@ -17,7 +17,7 @@ impl Cut for ByRow {
 
     ghost assignment = { λ _. by_row };
 
-    ghost sized = { λ _. refl };
+    ghost size_is_headings = { λ _. refl };
 
     ghost lawful = { λ _. by_row_lawful };
 

@@ -17,7 +17,7 @@ impl Cut for ByStage {
 
     ghost assignment = { λ _. by_stage };
 
-    ghost sized = { λ _. refl };
+    ghost size_is_headings = { λ _. refl };
 
     ghost lawful = { λ _. by_stage_lawful };
 

@@ -32,7 +32,7 @@ impl Cut for ByType {
 
     ghost assignment = { λ _. by_type };
 
-    ghost sized = { λ _. refl };
+    ghost size_is_headings = { λ _. refl };
 
     ghost lawful = { λ _. by_type_lawful };
 

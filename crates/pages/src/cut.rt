@@ -10,17 +10,19 @@ pub trait Cut {
     /// The number of headings, 1 to 22.
     const HEADINGS: usize;
 
+    /// `HEADINGS` as a number for clauses.
     ghost HEADINGS: { ℕ };
 
-    // The heading of each row.
+    /// The heading of each row, by number.
     ghost assignment: { Self → Assignment };
 
     /// The heading of a row, from 1 to `HEADINGS`.
     fn heading(&self, row: Row) -> usize
         ensures { result ≡ (assignment self.now).heading (row_number row) };
 
-    // `HEADINGS` is the number of headings of the assignment.
-    ghost sized: { (s : Self) → (assignment s).size ≡ HEADINGS };
+    /// The assignment has `HEADINGS` headings.
+    ghost size_is_headings: { (s : Self) → (assignment s).size ≡ HEADINGS };
 
+    /// The assignment has 1 to 22 headings, and gives every row one of them.
     ghost lawful: { (s : Self) → IsCut (assignment s) };
 }

@@ -1,13 +1,13 @@
 //! Writing a page by any cut.
-ghost use Rattle.std.specs.Prelude.{◌≡◌, ℕ, ◌≤◌, IfOk};
+ghost use Rattle.std.specs.Prelude.{◌≡◌, IfOk};
 ghost use Rattle.exact.specs.Rounding.{nearest_whole, over};
 ghost use Rattle.totals.specs.Sums.{sums_of};
-ghost use Rattle.pages.specs.Pages.{Writes, AddUp, IsNearGrams, page_figures, heading_sums, printed_kilograms, figures_between, is_between, NeighboursAreNear};
+ghost use Rattle.pages.specs.Pages.{Writes, AddUp, page_figures, NeighboursAreNear};
 
 use crate::cut::Cut;
 use crate::figure::Figure;
 use crate::headings::totals_by_heading;
-use exact::Ratio;
+use exact::Fraction;
 use refusals::Refusal;
 use totals::Totals;
 
@@ -54,7 +54,7 @@ pub fn write_page<C: Cut>(
 fn whole_kilograms(grams: i64) -> i64
     ensures { result ≡ nearest_whole (over grams 1000) }
 {
-    let exact = Ratio {
+    let exact = Fraction {
         numerator: grams,
         divisor: GRAMS_PER_KILOGRAM,
     };

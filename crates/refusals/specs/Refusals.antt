@@ -1,7 +1,7 @@
 -- The numbers of refusals, and which of several a call returns.
 use Rattle.std.specs.Prelude.{◌≡◌, ℕ, ◌<◌, ◌⊎◌, List, [], ◌∷◌, Ok, Err, Result}
 use Rattle.refusals.specs.declared.refusal.Refusal.{Refusal}
-use Rattle.refusals.specs.declared.refusal.Refusal.TheVariants.{Unframed, UnwantedKind, WrongLength, OutOfRange, UnknownRow, UnfitSpan, UnfitQuantity, FactorLacking, UnfitUnit, TooLarge, TooFewPlaces, Superseded, Contradicted, BookFull, TooManyRows, FeedTooLong}
+use Rattle.refusals.specs.declared.refusal.Refusal.TheVariants.{Unframed, UnexpectedKind, WrongLength, OutOfRange, UnknownRow, InvalidSpan, InvalidQuantity, FactorLacking, InvalidUnit, TooLarge, TooFewPlaces, Superseded, Contradicted, BookFull, TooManyFactorRows, FeedTooLong}
 
 -- the number of a lack, the same for all codes
 abbrev pub lack_number : ℕ
@@ -10,20 +10,20 @@ lack_number = 8
 -- the number of a refusal
 abbrev pub refusal_number : Refusal → ℕ
 refusal_number Unframed = 1
-refusal_number UnwantedKind = 2
+refusal_number UnexpectedKind = 2
 refusal_number WrongLength = 3
 refusal_number OutOfRange = 4
 refusal_number UnknownRow = 5
-refusal_number UnfitSpan = 6
-refusal_number UnfitQuantity = 7
+refusal_number InvalidSpan = 6
+refusal_number InvalidQuantity = 7
 refusal_number (FactorLacking l) = lack_number
-refusal_number UnfitUnit = 9
+refusal_number InvalidUnit = 9
 refusal_number TooLarge = 10
 refusal_number TooFewPlaces = 11
 refusal_number Superseded = 21
 refusal_number Contradicted = 22
 refusal_number BookFull = 23
-refusal_number TooManyRows = 24
+refusal_number TooManyFactorRows = 24
 refusal_number FeedTooLong = 25
 
 -- the codes that a refusal names: for a lack, the one that was asked for and the one that is lacking

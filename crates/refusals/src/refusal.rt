@@ -14,7 +14,7 @@ pub enum Refusal {
     /// less than 4 or more than there are.
     Unframed,
     /// The note is of another kind than the call reads (2).
-    UnwantedKind,
+    UnexpectedKind,
     /// The note is longer or shorter than notes of its kind (3).
     WrongLength,
     /// A number of a building or of a factor is out of range (4).
@@ -22,13 +22,13 @@ pub enum Refusal {
     /// The row of an entry is not 1 to 22 (5).
     UnknownRow,
     /// The span of an entry does not fit its row (6).
-    UnfitSpan,
+    InvalidSpan,
     /// The quantity of an entry is out of range, infinite or not a number (7).
-    UnfitQuantity,
+    InvalidQuantity,
     /// The source lacks the factor of a code (8).
     FactorLacking(LackCodes),
     /// The unit of the factor does not fit the row (9).
-    UnfitUnit,
+    InvalidUnit,
     /// The product of thousandths, amount and multiplier is above 10^18 before it is divided (10).
     TooLarge,
     /// A page is given fewer places than its cut has headings (11).
@@ -40,7 +40,7 @@ pub enum Refusal {
     /// The number is new, and all 512 places of the book are taken (23).
     BookFull,
     /// A feed has more than 256 factor rows after its building (24).
-    TooManyRows,
+    TooManyFactorRows,
     /// A feed has more than 65,536 bytes (25).
     FeedTooLong,
 }
@@ -52,20 +52,20 @@ impl Refusal {
     {
         match self {
             Refusal::Unframed => 1,
-            Refusal::UnwantedKind => 2,
+            Refusal::UnexpectedKind => 2,
             Refusal::WrongLength => 3,
             Refusal::OutOfRange => 4,
             Refusal::UnknownRow => 5,
-            Refusal::UnfitSpan => 6,
-            Refusal::UnfitQuantity => 7,
+            Refusal::InvalidSpan => 6,
+            Refusal::InvalidQuantity => 7,
             Refusal::FactorLacking(_) => 8,
-            Refusal::UnfitUnit => 9,
+            Refusal::InvalidUnit => 9,
             Refusal::TooLarge => 10,
             Refusal::TooFewPlaces => 11,
             Refusal::Superseded => 21,
             Refusal::Contradicted => 22,
             Refusal::BookFull => 23,
-            Refusal::TooManyRows => 24,
+            Refusal::TooManyFactorRows => 24,
             Refusal::FeedTooLong => 25,
         }
     }
@@ -74,8 +74,8 @@ impl Refusal {
 impl From<LackCodes> for Refusal {
     ghost from_gives = { λ l r. (refusal_number r ≡ lack_number) × (refusal_codes r ≡ l.asked ∷ l.lacking ∷ []) };
 
-    fn from(lacking: LackCodes) -> Refusal {
-        Refusal::FactorLacking(lacking)
+    fn from(codes: LackCodes) -> Refusal {
+        Refusal::FactorLacking(codes)
     }
 }
 

@@ -31,7 +31,7 @@ use Rattle.report.specs.Calls.{history_text, send_text}
 use Rattle.report.specs.ReportLines.{denied_line, page_lines, grade_line}
 use Rattle.report.specs.Reports.{IsReportText, denied, of_project, IsLawfulReport, IsReport}
 use Rattle.report.proofs.Concluding.{concludes}
-use Rattle.report.specs.Projects.{size_conditions, row_conditions, ReadsRow, ProjectParts, project_parts, TakesRows, all, row, refused, Opens, too_long, no_building, row_refused, project}
+use Rattle.report.specs.Projects.{length_conditions, factor_row_conditions, ReadsFactorRowAfter, ProjectParts, project_parts, TakesFactorRows, all, row, refused, GivesProject, too_long, no_building, row_refused, project}
 
 -- bytes that begin with a note are framed
 begins : (n rest bs : List ℕ) → IsOneNote n → bs ≡ n ++ rest → IsFramed bs
@@ -53,14 +53,14 @@ sends_of_only bs a b (note {more = xs} n rest one cut more) (note {more = ys} n'
     let same = front_only n rest n' rest' one one' (sym cut ∙ cut') in
     (λ i. same.0 i ∷ sends_of_only rest xs ys more (subst (λ m. SplitsIntoSends m ys) (sym same.1) more') i)
 
-row_once : (n : ℕ) (bs : List ℕ) (r s : Result FactorRow Refusal) → ReadsRow n bs r → ReadsRow n bs s → SameAnswer ◌≡◌ r s
-row_once n bs = answer_unique (row_conditions n bs) (IsFactorRow (first_note bs)) (IsFactorRow (first_note bs)) ◌≡◌ (λ a b is is'. is ∙ sym is')
+row_once : (n : ℕ) (bs : List ℕ) (r s : Result FactorRow Refusal) → ReadsFactorRowAfter n bs r → ReadsFactorRowAfter n bs s → SameAnswer ◌≡◌ r s
+row_once n bs = answer_unique (factor_row_conditions n bs) (IsFactorRow (first_note bs)) (IsFactorRow (first_note bs)) ◌≡◌ (λ a b is is'. is ∙ sym is')
 
-takes_only : (rows : List FactorRow) (notes : List (List ℕ)) (a b : Result (List FactorRow) Refusal) → TakesRows rows notes a → TakesRows rows notes b → SameAnswer ◌≡◌ a b
+takes_only : (rows : List FactorRow) (notes : List (List ℕ)) (a b : Result (List FactorRow) Refusal) → TakesFactorRows rows notes a → TakesFactorRows rows notes b → SameAnswer ◌≡◌ a b
 takes_only rows notes a b all all = refl
 takes_only rows notes a b (row {note = n} {notes = ns} x reads more) (row y reads' more') =
     let same = row_once (length rows) n (Ok x) (Ok y) reads reads' in
-    takes_only (rows ++ (x ∷ [])) ns a b more (subst (λ z. TakesRows (rows ++ (z ∷ [])) ns b) (sym same) more')
+    takes_only (rows ++ (x ∷ [])) ns a b more (subst (λ z. TakesFactorRows (rows ++ (z ∷ [])) ns b) (sym same) more')
 takes_only rows notes a b (row {note = n} x reads more) (refused {f = f} reads') = absurd (row_once (length rows) n (Ok x) (Err f) reads reads')
 takes_only rows notes a b (refused {note = n} {f = f} reads) (row x reads' more) = absurd (row_once (length rows) n (Err f) (Ok x) reads reads')
 takes_only rows notes a b (refused {note = n} {f = f} reads) (refused {f = g} reads') = row_once (length rows) n (Err f) (Err g) reads reads'
@@ -71,31 +71,31 @@ opens_with_only {feed} {b} {c} {notes} {notes'} {left} {left'} p q =
     let same = rows_only (rest_after_first feed) notes notes' left left' p.rows q.rows in
     (building_once feed (Ok b) (Ok c) p.building q.building, same.0, same.1)
 
-pub opens_only : (feed : List ℕ) (a b : Result ProjectParts Refusal) → Opens feed a → Opens feed b → SameAnswer ◌≡◌ a b
-opens_only feed a b (too_long {f = f} long) (too_long {f = g} long') = least_only (size_conditions feed) (refusal_number f) (refusal_number g) long long'
-opens_only feed a b (too_long {f = f} long) (no_building short reads) = absurd (none_fails (size_conditions feed) short (refusal_number f) long.0)
-opens_only feed a b (too_long {f = f} long) (row_refused short opens takes) = absurd (none_fails (size_conditions feed) short (refusal_number f) long.0)
-opens_only feed a b (too_long {f = f} long) (project short opens takes) = absurd (none_fails (size_conditions feed) short (refusal_number f) long.0)
-opens_only feed a b (no_building short reads) (too_long {f = f} long) = absurd (none_fails (size_conditions feed) short (refusal_number f) long.0)
+pub opens_only : (feed : List ℕ) (a b : Result ProjectParts Refusal) → GivesProject feed a → GivesProject feed b → SameAnswer ◌≡◌ a b
+opens_only feed a b (too_long {f = f} long) (too_long {f = g} long') = least_only (length_conditions feed) (refusal_number f) (refusal_number g) long long'
+opens_only feed a b (too_long {f = f} long) (no_building short reads) = absurd (none_fails (length_conditions feed) short (refusal_number f) long.0)
+opens_only feed a b (too_long {f = f} long) (row_refused short opens takes) = absurd (none_fails (length_conditions feed) short (refusal_number f) long.0)
+opens_only feed a b (too_long {f = f} long) (project short opens takes) = absurd (none_fails (length_conditions feed) short (refusal_number f) long.0)
+opens_only feed a b (no_building short reads) (too_long {f = f} long) = absurd (none_fails (length_conditions feed) short (refusal_number f) long.0)
 opens_only feed a b (no_building {f = f} short reads) (no_building {f = g} short' reads') = building_once feed (Err f) (Err g) reads reads'
 opens_only feed a b (no_building {f = f} short reads) (row_refused {b = x} short' opens takes) = absurd (building_once feed (Err f) (Ok x) reads opens.building)
 opens_only feed a b (no_building {f = f} short reads) (project {b = x} short' opens takes) = absurd (building_once feed (Err f) (Ok x) reads opens.building)
-opens_only feed a b (row_refused short opens takes) (too_long {f = f} long) = absurd (none_fails (size_conditions feed) short (refusal_number f) long.0)
+opens_only feed a b (row_refused short opens takes) (too_long {f = f} long) = absurd (none_fails (length_conditions feed) short (refusal_number f) long.0)
 opens_only feed a b (row_refused {b = x} short opens takes) (no_building {f = f} short' reads) = absurd (building_once feed (Ok x) (Err f) opens.building reads)
 opens_only feed a b (row_refused {notes = ns} {f = f} short opens takes) (row_refused {f = g} short' opens' takes') =
     let same = opens_with_only opens opens' in
-    takes_only [] ns (Err f) (Err g) takes (subst (λ n. TakesRows [] n (Err g)) (sym same.1) takes')
+    takes_only [] ns (Err f) (Err g) takes (subst (λ n. TakesFactorRows [] n (Err g)) (sym same.1) takes')
 opens_only feed a b (row_refused {notes = ns} {f = f} short opens takes) (project {rows = rs} short' opens' takes') =
     let same = opens_with_only opens opens' in
-    absurd (takes_only [] ns (Err f) (Ok rs) takes (subst (λ n. TakesRows [] n (Ok rs)) (sym same.1) takes'))
-opens_only feed a b (project short opens takes) (too_long {f = f} long) = absurd (none_fails (size_conditions feed) short (refusal_number f) long.0)
+    absurd (takes_only [] ns (Err f) (Ok rs) takes (subst (λ n. TakesFactorRows [] n (Ok rs)) (sym same.1) takes'))
+opens_only feed a b (project short opens takes) (too_long {f = f} long) = absurd (none_fails (length_conditions feed) short (refusal_number f) long.0)
 opens_only feed a b (project {b = x} short opens takes) (no_building {f = f} short' reads) = absurd (building_once feed (Ok x) (Err f) opens.building reads)
 opens_only feed a b (project {notes = ns} {rows = rs} short opens takes) (row_refused {f = f} short' opens' takes') =
     let same = opens_with_only opens opens' in
-    absurd (takes_only [] ns (Ok rs) (Err f) takes (subst (λ n. TakesRows [] n (Err f)) (sym same.1) takes'))
+    absurd (takes_only [] ns (Ok rs) (Err f) takes (subst (λ n. TakesFactorRows [] n (Err f)) (sym same.1) takes'))
 opens_only feed a b (project {notes = ns} {rows = rs} short opens takes) (project {rows = rs'} short' opens' takes') =
     let same = opens_with_only opens opens' in
-    let rows = takes_only [] ns (Ok rs) (Ok rs') takes (subst (λ n. TakesRows [] n (Ok rs')) (sym same.1) takes') in
+    let rows = takes_only [] ns (Ok rs) (Ok rs') takes (subst (λ n. TakesFactorRows [] n (Ok rs')) (sym same.1) takes') in
     (λ i. project_parts (same.0 i) (rows i) (same.2 i))
 
 -- the line for a refusal depends on its number alone
@@ -104,7 +104,7 @@ denied_same k f g number i = codes "denied " ++ (decimal k ++ (codes " " ++ (dec
 
 -- a send has one outcome and one line
 same_sends : {s t t' : State} {bs : List ℕ} (r r' : Result (Unit {0}) Refusal) (k : ℕ) → Sends s bs r t → Sends s bs r' t' → (t ≡ t') × (send_text k r ≡ send_text k r')
-same_sends (Ok u) (Ok v) k a b = (a.let_in ∙ sym b.let_in, refl)
+same_sends (Ok u) (Ok v) k a b = (a.accepted ∙ sym b.accepted, refl)
 same_sends {s} {bs = bs} (Ok u) (Err g) k a b = let e = number_unique (send_conditions s bs) a.number b.number in absurd (omega (arith, above_zero g))
 same_sends {s} {bs = bs} (Err f) (Ok v) k a b = let e = number_unique (send_conditions s bs) a.number b.number in absurd (omega (arith, above_zero f))
 same_sends {s} {bs = bs} (Err f) (Err g) k a b = (a.refused ∙ sym b.refused, denied_same k f g (number_unique (send_conditions s bs) a.number b.number))

@@ -7,7 +7,7 @@ use Rattle.sheet.specs.Histories.{Event, send_event, page_event, grade_event, Dr
 use Rattle.sheet.specs.States.{State, Sends}
 use Rattle.report.specs.ReportLines.{denied_line, page_lines, grade_line}
 
--- the text of a send: none where it is let in
+-- the text of a send: none where it is accepted
 abbrev pub send_text : ℕ → Result (Unit {0}) Refusal → List ℕ
 send_text place (Ok u) = []
 send_text place (Err f) = denied_line place f

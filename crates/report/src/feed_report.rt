@@ -1,5 +1,5 @@
 //! The report of a feed.
-ghost use Rattle.std.specs.Prelude.{◌≡◌, ℕ, List, IfOk, string_bytes};
+ghost use Rattle.std.specs.Prelude.{IfOk, string_bytes};
 ghost use Rattle.report.specs.Reports.{IsReportText, IsLawfulReport};
 ghost use Rattle.feed.specs.Writing.{IsOnlyText};
 

@@ -4,7 +4,7 @@ ghost use Rattle.feed.specs.Readings.{ReadsFactorRow};
 ghost use Rattle.feed.specs.FactorRows.{ReadsEachRow};
 ghost use Rattle.refusals.specs.declared.refusal.Refusal.TheVariants.{FeedTooLong};
 ghost use Rattle.refusals.specs.Refusals.{GivesOrRefusesBy};
-ghost use Rattle.report.specs.Projects.{ReadsProject, ReadsRow, ReadsRows};
+ghost use Rattle.report.specs.Projects.{ReadsProject, ReadsFactorRowAfter, ReadsOwnFactorRows};
 
 use domain::{Building, FactorRow};
 use feed::{MAX_FEED_BYTES, Opening, OpeningError};
@@ -30,7 +30,7 @@ impl<'a> Project<'a> {
     {
         check_length(feed)?;
         let opening = Opening::read(alloc, feed)?;
-        let rows = own_rows(alloc, opening.rows.as_slice())?;
+        let rows = own_factor_rows(alloc, opening.rows.as_slice())?;
         Ok(Project {
             building: opening.building,
             rows,
@@ -49,27 +49,29 @@ fn check_length(feed: &[u8]) -> Result<(), Refusal>
 }
 
 // The project's own factors: every row, or the refusal of the first that is refused.
-fn own_rows(
+fn own_factor_rows(
     alloc: Global,
     answers: &[Result<FactorRow, Refusal>],
 ) -> Result<Vec<FactorRow>, OpeningError>
-    ensures { (notes : List (List ℕ)) → ReadsEachRow notes answers.now → ReadsRows notes result }
+    // Of any notes whose reading these are the results:
+    ensures { (notes : List (List ℕ)) → ReadsEachRow notes answers.now → ReadsOwnFactorRows notes result }
 {
     let mut rows = Vec::new(alloc);
     for answer in answers {
-        let row = own_row(*answer, rows.len())?;
+        let row = own_factor_row(*answer, rows.len())?;
         rows.push(row)?;
     }
     Ok(rows)
 }
 
 // A row that comes after `before` others.
-fn own_row(answer: Result<FactorRow, Refusal>, before: usize) -> Result<FactorRow, Refusal>
-    ensures { (note : List ℕ) → ReadsFactorRow note answer → ReadsRow before note result }
+fn own_factor_row(answer: Result<FactorRow, Refusal>, before: usize) -> Result<FactorRow, Refusal>
+    // Of any note whose reading this is the result:
+    ensures { (note : List ℕ) → ReadsFactorRow note answer → ReadsFactorRowAfter before note result }
 {
     let row = answer?;
     if before >= MAX_ROWS {
-        return Err(Refusal::TooManyRows);
+        return Err(Refusal::TooManyFactorRows);
     }
     Ok(row)
 }

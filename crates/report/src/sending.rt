@@ -1,10 +1,8 @@
 //! Sending the notes of a feed into a sheet.
-ghost use Rattle.std.specs.Prelude.{◌≡◌, IfOk, string_bytes};
-ghost use Rattle.factors.specs.Maps.{FactorMap};
-ghost use Rattle.domain.specs.declared.building.BuildingNumbers.{BuildingNumbers};
-ghost use Rattle.report.specs.ProjectReports.{SendsAll, SendsAllFrom};
+ghost use Rattle.std.specs.Prelude.{IfOk, string_bytes};
+ghost use Rattle.report.specs.ProjectReports.{SendsAllFrom};
 ghost use Rattle.report.specs.Calls.{WritesSend};
-ghost use Rattle.sheet.specs.States.{state_of, new_state};
+ghost use Rattle.sheet.specs.States.{state_of};
 
 use crate::report_lines::denied_line;
 use factors::FactorSource;
@@ -37,7 +35,7 @@ pub(crate) fn send_all<S: FactorSource>(
     Ok(text)
 }
 
-// Sends the first note of a part. Returns the line of its refusal, or no text where it is let in.
+// Sends the first note of a part. Returns the line of its refusal, or no text where it is accepted.
 fn send<S: FactorSource>(
     alloc: Global,
     sheet: &mut Sheet<S>,

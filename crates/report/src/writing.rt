@@ -1,6 +1,6 @@
 //! Reading a feed and writing its report.
-ghost use Rattle.std.specs.Prelude.{IfSome, OnOk};
-ghost use Rattle.feed.specs.Writing.{WritesText, WritesFor};
+ghost use Rattle.std.specs.Prelude.{OnOk};
+ghost use Rattle.feed.specs.Writing.{WritesFor};
 ghost use Rattle.report.specs.Reports.{IsReport};
 
 use crate::feed_report::report;

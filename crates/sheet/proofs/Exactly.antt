@@ -6,7 +6,7 @@ use Rattle.std.proofs.lemmas.List.Elements.{All-from_recursion, All-map}
 use Rattle.std.specs.List.{AllByRecursion}
 use Rattle.std.specs.Option.{option_to_list}
 use Rattle.exact.specs.Adding.{fraction_sum, fraction_negation}
-use Rattle.exact.specs.Rounding.{Fraction, HasDivisor}
+use Rattle.exact.specs.Rounding.{Fraction, HasPositiveDivisor}
 use Rattle.exact.proofs.Halves.{IsWithinHalves, none_away, one_away, away_negated, away_plus}
 use Rattle.refusals.specs.Refusals.{AllHold}
 use Rattle.factors.specs.Maps.{FactorMap}
@@ -23,7 +23,7 @@ use Rattle.sheet.specs.RollNotes.{RollNote, entry_conditions, note_place}
 
 -- a whole number is at most n halves away from a fraction whose divisor is not 0
 pub record Away (n : ℕ) (g : ℤ) (x : Fraction) : Type 0 where
-  pub divides : HasDivisor x
+  pub divides : HasPositiveDivisor x
   pub within : IsWithinHalves n g x
 
 away_signed : {g : ℕ} {x : Fraction} (t : Bool) → Away 1 (pos g) x → Away 1 (signed_grams t g) (if t then fraction_negation x else x)

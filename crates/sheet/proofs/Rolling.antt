@@ -4,7 +4,7 @@ use Rattle.factors.specs.Maps.{FactorMap}
 use Rattle.sheet.specs.RollNotes.{RollNote, note_place}
 use Rattle.sheet.specs.Places.{PlaceNumbers}
 use Rattle.sheet.specs.Placing.{place_under, IsNotSuperseded, Agrees, IsAmong, HasRoom, places_with}
-use Rattle.sheet.specs.Rolls.{numbers, note_of_bytes, IsRoll, empty, unfit, without_room, on_roll, entries_of, AreCounted}
+use Rattle.sheet.specs.Rolls.{numbers, roll_note_of_bytes, IsRoll, empty, unfit, without_room, on_roll, entries_of, AreCounted}
 use Rattle.sheet.proofs.Deciders.{decide, deciding, decides_one, names, Enters, last, ahead, behind, past}
 
 module _ (y : ℕ) (factor_map : FactorMap) where
@@ -16,10 +16,10 @@ module _ (y : ℕ) (factor_map : FactorMap) where
   roll_only (unfit bs a u) (on_roll bs' b f room) = absurd (f u)
   roll_only (without_room bs a f full) (unfit bs' b u) = absurd (f u)
   roll_only (without_room bs a f full) (without_room bs' b g full') = roll_only a b
-  roll_only (without_room bs a f full) (on_roll bs' b g room) = absurd (full (subst (λ r. HasRoom (numbers r) (note_of_bytes bs).number) (roll_only a b) room))
+  roll_only (without_room bs a f full) (on_roll bs' b g room) = absurd (full (subst (λ r. HasRoom (numbers r) (roll_note_of_bytes bs).number) (roll_only a b) room))
   roll_only (on_roll bs a f room) (unfit bs' b u) = absurd (f u)
-  roll_only (on_roll bs a f room) (without_room bs' b g full) = absurd (full (subst (λ r. HasRoom (numbers r) (note_of_bytes bs).number) (sym (roll_only a b)) room))
-  roll_only (on_roll bs a f room) (on_roll bs' b g room') = ap (λ r. note_of_bytes bs ∷ r) (roll_only a b)
+  roll_only (on_roll bs a f room) (without_room bs' b g full) = absurd (full (subst (λ r. HasRoom (numbers r) (roll_note_of_bytes bs).number) (sym (roll_only a b)) room))
+  roll_only (on_roll bs a f room) (on_roll bs' b g room') = ap (λ r. roll_note_of_bytes bs ∷ r) (roll_only a b)
 
   abbrev line : RollNote → PlaceNumbers
   line n = note_place y factor_map n

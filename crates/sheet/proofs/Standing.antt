@@ -10,7 +10,7 @@ use Rattle.domain.specs.declared.building.BuildingNumbers.{BuildingNumbers}
 use Rattle.sheet.specs.RollNotes.{RollNote, entry_conditions, note_place}
 use Rattle.sheet.specs.Places.{PlaceNumbers}
 use Rattle.sheet.specs.Placing.{place_under, IsNotSuperseded, Agrees, HasRoom, IsAmong, placing_conditions}
-use Rattle.sheet.specs.Rolls.{numbers, note_of_bytes, IsUnfit, IsRoll, empty, unfit, without_room, on_roll}
+use Rattle.sheet.specs.Rolls.{numbers, roll_note_of_bytes, IsUnfit, IsRoll, empty, unfit, without_room, on_roll}
 use Rattle.sheet.specs.States.{State, new_state, content_conditions, send_conditions, state_with, Sends}
 use Rattle.feed.specs.Readings.{reading_conditions}
 use Rattle.feed.specs.SentNotes.{IsSent}
@@ -43,7 +43,7 @@ module _ (b : BuildingNumbers) (factor_map : FactorMap) where
     ns = decide roll
 
     abbrev n : RollNote
-    n = note_of_bytes bs
+    n = roll_note_of_bytes bs
 
     abbrev held : List PlaceNumbers
     held = map (note_place y factor_map) ns
@@ -61,8 +61,8 @@ module _ (b : BuildingNumbers) (factor_map : FactorMap) where
     same_numbers : map (λ t. t.number) held ≡ numbers roll
     same_numbers = places_numbers y factor_map ns ∙ names_decide roll
 
-    let_in : AllHold (conditions_of_content ++ book_conditions) → Standing (bs ∷ sends) (state_with (holding roll) new)
-    let_in kept =
+    accepted : AllHold (conditions_of_content ++ book_conditions) → Standing (bs ∷ sends) (state_with (holding roll) new)
+    accepted kept =
         let asks = left_hold conditions_of_content book_conditions kept in
         let places = right_hold conditions_of_content book_conditions kept in
         let ahead = hold_at (refusal_number Superseded) book_conditions places in
@@ -103,7 +103,7 @@ module _ (b : BuildingNumbers) (factor_map : FactorMap) where
         (fails_either conditions_of_content book_conditions k least.0)
 
     one_send : {r : Result (Unit {0}) Refusal} {t : State} → Sends (holding roll) bs r t → Standing (bs ∷ sends) t
-    one_send {r = Ok u} step = subst (Standing (bs ∷ sends)) (sym step.let_in) (let_in (step.number.kept refl))
+    one_send {r = Ok u} step = subst (Standing (bs ∷ sends)) (sym step.accepted) (accepted (step.number.kept refl))
     one_send {r = Err f} step = subst (Standing (bs ∷ sends)) (sym step.refused) (refused (refusal_number f) (least_answered (send_conditions (holding roll) bs) f step.number))
 
   pub sent_once : {sends : List (List ℕ)} {s t : State} {bs : List ℕ} {r : Result (Unit {0}) Refusal} → Standing sends s → Sends s bs r t → Standing (bs ∷ sends) t

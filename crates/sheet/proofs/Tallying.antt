@@ -8,7 +8,7 @@ use Rattle.booking.specs.declared.line.BookedLine.{BookedLine}
 use Rattle.booking.specs.Booking.{LineNumbers, line_numbers}
 use Rattle.booking.specs.Rows.{IsRowNumber, row_number, is_subtracted}
 use Rattle.booking.specs.Emissions.{signed_grams}
-use Rattle.totals.specs.Sizes.{max_size}
+use Rattle.totals.specs.Sizes.{max_total_grams}
 use Rattle.totals.specs.Sums.{sum_in, numbered_rows}
 use Rattle.totals.proofs.Adding.{Adds, whole, natural, first, part, added, nothing, sums_in, sizes_added, size_most, counts_added, in_bounds_fits, in_bounds_kept}
 use Rattle.sheet.specs.declared.place.Place.{Place}
@@ -120,7 +120,7 @@ module _ {places : List Place} {i : ℕ} {gs : List ℤ} {ns : List ℕ} (h : Ta
     within_counts : row < length ns
     within_counts = omega (arith, h.counts_rows, a.at, a.in_row)
 
-    sum_in_bounds : unsigned_abs (get_or gs row (pos 0)) + unsigned_abs grams ≤ max_size
+    sum_in_bounds : unsigned_abs (get_or gs row (pos 0)) + unsigned_abs grams ≤ max_total_grams
     sum_in_bounds = omega (arith, size_most gs row (pos 0) within_grams, h.in_bounds, size)
 
     pub sum_fits : FitsSigned w64 (sum_of (get_or gs row (pos 0)) grams)

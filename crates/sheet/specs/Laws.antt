@@ -65,7 +65,7 @@ pub record IsLawful (b : BuildingNumbers) (factor_map : FactorMap) (history : Li
   pub grades : (later before : List Event) (grade : ℕ) → history ≡ later ++ (grade_event grade ∷ before)
       → IsLawfulGrade b factor_map (sent_bytes before) grade
 
--- whatever calls led to the sheet s, the law holds of them and of the call e after them
+-- with any calls that led to the sheet s, the call e after them keeps the law
 abbrev pub KeepsLaw : State → Event → Type 0
 KeepsLaw s e =
     (b : BuildingNumbers) (factor_map : FactorMap) (before : List Event) → History b factor_map before s

@@ -6,7 +6,7 @@ use Rattle.sheet.specs.declared.book.Book.{Book}
 use Rattle.sheet.specs.declared.place.PlaceContent.{PlaceContent}
 use Rattle.sheet.specs.declared.place.PlaceContent.TheVariants.{Withdrawn, Entry}
 use Rattle.sheet.specs.declared.place.Place.{Place}
-use Rattle.sheet.specs.declared.record.Record.{Record}
+use Rattle.sheet.specs.declared.record.LineRecord.{LineRecord}
 
 -- a place in use; it has no line where its number was withdrawn
 pub record PlaceNumbers : Type 0 where
@@ -15,7 +15,7 @@ pub record PlaceNumbers : Type 0 where
   pub line : Option LineNumbers
 
 -- a record by its numbers
-abbrev pub record_numbers : Record → LineNumbers
+abbrev pub record_numbers : LineRecord → LineNumbers
 record_numbers r = record {
   row = row_number r.row;
   span = r.span;

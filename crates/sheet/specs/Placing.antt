@@ -37,7 +37,7 @@ abbrev pub replacing_conditions : PlaceNumbers → Option PlaceNumbers → Condi
 replacing_conditions new old =
     (refusal_number Superseded, IsNotSuperseded new old) ∷ (refusal_number Contradicted, Agrees new old) ∷ []
 
--- r says whether a line may replace the one that is held under its number
+-- r is Ok where the place `new` may replace the place `old` of its number, and else the refusal
 abbrev pub MayReplace : PlaceNumbers → PlaceNumbers → Result (Unit {0}) Refusal → Type 0
 MayReplace new old r = GivesOrRefuses (replacing_conditions new (Some old)) (λ _. Unit {0}) r
 

@@ -17,12 +17,12 @@ pub record RollNote : Type 0 where
   pub entry : Option Entry
 
 -- the roll's note of a note that was read
-abbrev pub roll_note_of : SentNote → RollNote
-roll_note_of s = record { number = s.number; revision = s.revision; entry = entry_of_content s.content }
+abbrev pub roll_note_of_sent : SentNote → RollNote
+roll_note_of_sent s = record { number = s.number; revision = s.revision; entry = entry_of_content s.content }
 
 -- the roll's note of the bytes of a note
-abbrev pub roll_note : List ℕ → RollNote
-roll_note note = roll_note_of (sent_note_of note)
+abbrev pub roll_note_of_note : List ℕ → RollNote
+roll_note_of_note note = roll_note_of_sent (sent_note_of note)
 
 -- in a building with a life of y years, at the factors of a map
 module _ (y : ℕ) (factor_map : FactorMap) where

@@ -6,7 +6,7 @@ use Rattle.refusals.specs.Refusals.{SomeFails}
 use Rattle.factors.specs.Maps.{FactorMap}
 use Rattle.feed.specs.Frames.{first_note}
 use Rattle.domain.specs.declared.entry.Entry.{Entry}
-use Rattle.sheet.specs.RollNotes.{RollNote, roll_note}
+use Rattle.sheet.specs.RollNotes.{RollNote, roll_note_of_note}
 use Rattle.sheet.specs.Placing.{HasRoom}
 use Rattle.sheet.specs.States.{content_conditions}
 
@@ -21,8 +21,8 @@ numbers [] = []
 numbers (n ∷ roll) = numbers_with n.number (numbers roll)
 
 -- the roll's note of the first note of bytes
-abbrev pub note_of_bytes : List ℕ → RollNote
-note_of_bytes bs = roll_note (first_note bs)
+abbrev pub roll_note_of_bytes : List ℕ → RollNote
+roll_note_of_bytes bs = roll_note_of_note (first_note bs)
 
 module _ (y : ℕ) (factor_map : FactorMap) where
   -- a condition on the content of the bytes fails
@@ -36,9 +36,9 @@ module _ (y : ℕ) (factor_map : FactorMap) where
     unfit : {sends : List (List ℕ)} {roll : List RollNote} (bs : List ℕ) → IsRoll sends roll → IsUnfit bs
         → IsRoll (bs ∷ sends) roll
     without_room : {sends : List (List ℕ)} {roll : List RollNote} (bs : List ℕ) → IsRoll sends roll → (IsUnfit bs → ⊥)
-        → (HasRoom (numbers roll) (note_of_bytes bs).number → ⊥) → IsRoll (bs ∷ sends) roll
+        → (HasRoom (numbers roll) (roll_note_of_bytes bs).number → ⊥) → IsRoll (bs ∷ sends) roll
     on_roll : {sends : List (List ℕ)} {roll : List RollNote} (bs : List ℕ) → IsRoll sends roll → (IsUnfit bs → ⊥)
-        → HasRoom (numbers roll) (note_of_bytes bs).number → IsRoll (bs ∷ sends) (note_of_bytes bs ∷ roll)
+        → HasRoom (numbers roll) (roll_note_of_bytes bs).number → IsRoll (bs ∷ sends) (roll_note_of_bytes bs ∷ roll)
 
 -- n decides for the number k: it is listed under k, no note under k has a higher revision, and no earlier one has the
 -- same

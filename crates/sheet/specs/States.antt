@@ -8,7 +8,7 @@ use Rattle.domain.specs.Buildings.{numbers_of}
 use Rattle.feed.specs.Frames.{first_note}
 use Rattle.feed.specs.Readings.{reading_conditions}
 use Rattle.feed.specs.SentNotes.{IsSent}
-use Rattle.sheet.specs.RollNotes.{roll_note, entry_conditions, NamesLackOf, note_place}
+use Rattle.sheet.specs.RollNotes.{roll_note_of_note, entry_conditions, NamesLackOf, note_place}
 use Rattle.sheet.specs.declared.sheet.Sheet.{Sheet}
 use Rattle.sheet.specs.declared.place.Place.{Place}
 use Rattle.sheet.specs.Places.{PlaceNumbers, book_places, ChangesOnePlace, place_numbers}
@@ -42,11 +42,11 @@ new_state building factor_map = record { building = building; factor_map = facto
 -- the conditions on the content of sent bytes, in a building with a life of y years, at the factors of a map
 abbrev pub content_conditions : ℕ → FactorMap → List ℕ → Conditions
 content_conditions y factor_map bs =
-    reading_conditions IsSent bs ++ entry_conditions y factor_map (roll_note (first_note bs)).entry
+    reading_conditions IsSent bs ++ entry_conditions y factor_map (roll_note_of_note (first_note bs)).entry
 
 -- the place that the first note of the bytes takes
 abbrev pub sent_place : State → List ℕ → PlaceNumbers
-sent_place s bs = note_place s.building.life s.factor_map (roll_note (first_note bs))
+sent_place s bs = note_place s.building.life s.factor_map (roll_note_of_note (first_note bs))
 
 -- the state with a place put in
 abbrev pub state_with : State → PlaceNumbers → State
@@ -65,12 +65,12 @@ GivesSentPlace s bs r =
 
 -- a refusal for want of a factor names the code that the note asked for, and the one that is lacking
 abbrev pub NamesSentLack : State → List ℕ → Refusal → Type 0
-NamesSentLack s bs f = NamesLackOf s.building.life s.factor_map (roll_note (first_note bs)).entry f
+NamesSentLack s bs f = NamesLackOf s.building.life s.factor_map (roll_note_of_note (first_note bs)).entry f
 
 -- sending bytes returns r, and changes the state from s to t. The answer's number is 0 where all conditions hold, and
 -- the place is put in; else it is the smallest number of those that fail, and nothing is changed
 pub record Sends (s : State) (bs : List ℕ) (r : Result (Unit {0}) Refusal) (t : State) : Type 0 where
   pub number : IsAnswerNumber (send_conditions s bs) (answer_number r)
-  pub let_in : IfOk r (λ _. t ≡ state_with s (sent_place s bs))
+  pub accepted : IfOk r (λ _. t ≡ state_with s (sent_place s bs))
   pub refused : IfErr r (λ _. t ≡ s)
   pub named : IfErr r (NamesSentLack s bs)

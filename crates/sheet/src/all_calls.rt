@@ -1,9 +1,8 @@
 //! All the calls of one sheet, from its opening to a page and a grade.
-ghost use Rattle.std.specs.Prelude.{reverse, map, take, IfOk};
+ghost use Rattle.std.specs.Prelude.{map};
 ghost use Rattle.domain.specs.Buildings.{numbers_of};
 ghost use Rattle.grades.specs.Grades.{grade_number};
-ghost use Rattle.sheet.specs.PageAndGrade.{SendsThenDraws, IsPageAndGrade};
-ghost use Rattle.sheet.specs.Laws.{IsLawfulPage, IsLawfulGrade};
+ghost use Rattle.sheet.specs.PageAndGrade.{IsPageAndGrade};
 
 use crate::sheet::Sheet;
 use domain::Building;
@@ -21,8 +20,11 @@ pub fn page_and_grade<S: FactorSource + Drop, C: Cut>(
     cut: &C,
     figures: &mut [Figure],
 ) -> (Result<Figure, Refusal>, Grade)
-    ensures { IsPageAndGrade (numbers_of building) (S.factor_map source) (map (λ bytes. bytes.now) sends.now)
-        (C.assignment cut.now) figures.old result.0 figures.new (grade_number result.1) }
+    // Opening, these sends, a page and a grade are a history, and the law holds of the page and the grade.
+    ensures { IsPageAndGrade (numbers_of building) (S.factor_map source)
+        (map (λ bytes. bytes.now) sends.now)
+        (C.assignment cut.now) figures.old result.0 figures.new
+        (grade_number result.1) }
 {
     let mut sheet = Sheet::open(building, source);
     for bytes in sends {

@@ -79,7 +79,7 @@ impl Book {
         requires { position (λ p. p.number == new.number) (used_places self.now) ≡ Some at }
         ensures { Puts new self.old result self.new }
     {
-        new.replaces(&self.places[at])?;
+        new.check_replaces(&self.places[at])?;
         self.places[at] = new;
         Ok(())
     }

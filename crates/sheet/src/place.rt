@@ -1,13 +1,12 @@
 //! A place of the book, and what a note puts into one.
-ghost use Rattle.std.specs.Prelude.{◌≡◌, Some, IfErr, option_map, ◌↔◌, IsTrue};
-ghost use Rattle.refusals.specs.Refusals.{GivesOrRefuses};
+ghost use Rattle.std.specs.Prelude.{◌≡◌, IfErr, option_map, ◌↔◌, IsTrue};
 ghost use Rattle.booking.specs.Booking.{line_numbers};
 ghost use Rattle.sheet.specs.LineSums.{line_in_range};
-ghost use Rattle.sheet.specs.RollNotes.{entry_conditions, NamesLackOf, roll_note_of, note_place, GivesPlace};
+ghost use Rattle.sheet.specs.RollNotes.{NamesLackOf, roll_note_of_sent, GivesPlace};
 ghost use Rattle.sheet.specs.Places.{content_line, place_numbers};
-ghost use Rattle.sheet.specs.Placing.{EqualLines, replacing_conditions, MayReplace};
+ghost use Rattle.sheet.specs.Placing.{EqualLines, MayReplace};
 
-use crate::record::Record;
+use crate::record::LineRecord;
 use booking::BookedLine;
 use domain::Building;
 use factors::FactorSource;
@@ -17,10 +16,10 @@ use refusals::Refusal;
 #[derive(Clone, Copy, Debug, PartialEq, Eq)]
 pub(crate) enum PlaceContent {
     Withdrawn,
-    Entry(Record),
+    Entry(LineRecord),
 }
 
-// What the book holds of a number: the revision that was let in last, and its content.
+// What the book holds of a number: the revision that was accepted last, and its content.
 #[derive(Clone, Copy, Debug, PartialEq, Eq)]
 pub(crate) struct Place {
     pub number: u32,
@@ -38,7 +37,7 @@ pub(crate) const EMPTY: Place = Place {
 impl PlaceContent {
     // Whether both are withdrawn, or both are entries of the same row, span, code and thousandths. Grams follow from
     // these.
-    fn equals(&self, other: &PlaceContent) -> bool
+    fn has_equal_line(&self, other: &PlaceContent) -> bool
         ensures { IsTrue result ↔ EqualLines (content_line self.now) (content_line other.now) }
     {
         match (self, other) {
@@ -61,9 +60,9 @@ impl Place {
         building: &Building,
         source: &S,
     ) -> Result<Place, Refusal>
-        ensures value { GivesPlace building.now.life (S.factor_map source.now) (roll_note_of sent.now) result }
+        ensures value { GivesPlace building.now.life (S.factor_map source.now) (roll_note_of_sent sent.now) result }
         ensures named { IfErr result (NamesLackOf building.now.life (S.factor_map source.now)
-            (roll_note_of sent.now).entry) }
+            (roll_note_of_sent sent.now).entry) }
     {
         let content = match sent.content {
             SentContent::Entry(entry) => {
@@ -90,7 +89,7 @@ impl Place {
     }
 
     // Checks that it may replace an older place of its number. Refused by `Superseded` (21) or `Contradicted` (22).
-    pub(crate) fn replaces(&self, old: &Place) -> Result<(), Refusal>
+    pub(crate) fn check_replaces(&self, old: &Place) -> Result<(), Refusal>
         ensures { MayReplace (place_numbers self.now) (place_numbers old.now) result }
     {
         if self.revision < old.revision {
@@ -99,7 +98,7 @@ impl Place {
         if self.revision > old.revision {
             return Ok(());
         }
-        if self.content.equals(&old.content) {
+        if self.content.has_equal_line(&old.content) {
             Err(Refusal::Superseded)
         } else {
             Err(Refusal::Contradicted)

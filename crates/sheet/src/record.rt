@@ -11,7 +11,7 @@ const MAX_GRAMS: u64 = 100_000_000_000_000;
 
 // A booked line without its range, so that places are plain records.
 #[derive(Clone, Copy, Debug, PartialEq, Eq)]
-pub(crate) struct Record {
+pub(crate) struct LineRecord {
     pub row: Row,
     pub span: u16,
     pub code: u32,
@@ -19,11 +19,11 @@ pub(crate) struct Record {
     pub grams: u64,
 }
 
-impl From<BookedLine> for Record {
+impl From<BookedLine> for LineRecord {
     ghost from_gives = { λ line r. record_numbers r ≡ line_numbers line };
 
-    fn from(line: BookedLine) -> Record {
-        Record {
+    fn from(line: BookedLine) -> LineRecord {
+        LineRecord {
             row: line.row,
             span: line.span,
             code: line.code,
@@ -33,8 +33,8 @@ impl From<BookedLine> for Record {
     }
 }
 
-impl Record {
-    // The line, if its grams are in range. Those of a record that was let in are, but its type does not say so.
+impl LineRecord {
+    // The line, if its grams are in range. Those of an accepted one are, but its type does not say so.
     pub(crate) fn line(self) -> Option<BookedLine>
         ensures { option_map line_numbers result ≡ line_in_range (Some (record_numbers self)) }
     {

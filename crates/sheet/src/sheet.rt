@@ -1,16 +1,10 @@
 //! The sheet and its three calls: a send, a page and a grade.
-ghost use Rattle.std.specs.Prelude.{◌≡◌, List, ◌∷◌, IfOk, IfErr};
-ghost use Rattle.refusals.specs.Refusals.{GivesOrRefuses};
-ghost use Rattle.domain.specs.declared.building.BuildingNumbers.{BuildingNumbers};
+ghost use Rattle.std.specs.Prelude.{◌≡◌, IfOk, IfErr};
 ghost use Rattle.domain.specs.Buildings.{numbers_of};
-ghost use Rattle.feed.specs.Frames.{first_note};
-ghost use Rattle.factors.specs.Maps.{FactorMap};
 ghost use Rattle.grades.specs.Grades.{grade_number};
-ghost use Rattle.sheet.specs.Histories.{DrawsPage, GivesGrade, Event, send_event, page_event, grade_event, History};
-ghost use Rattle.sheet.specs.Laws.{IsLawful, KeepsLaw};
-ghost use Rattle.sheet.specs.RollNotes.{roll_note, NamesLackOf};
-ghost use Rattle.sheet.specs.Places.{place_numbers};
-ghost use Rattle.sheet.specs.States.{state_of, new_state, content_conditions, sent_place, ChangesPlaceOnly, Sends, GivesSentPlace, NamesSentLack};
+ghost use Rattle.sheet.specs.Histories.{DrawsPage, GivesGrade, send_event, page_event, grade_event};
+ghost use Rattle.sheet.specs.Laws.{KeepsLaw};
+ghost use Rattle.sheet.specs.States.{state_of, new_state, ChangesPlaceOnly, Sends, GivesSentPlace, NamesSentLack};
 
 use crate::book::Book;
 use crate::place::Place;
@@ -41,7 +35,7 @@ impl<S: FactorSource> Sheet<S> {
         }
     }
 
-    /// Lets the first note of the bytes into the book, in a new place or that of its number. Refused, with nothing
+    /// Enters the first note of the bytes in the book, at a new place or at that of its number. Refused, with nothing
     /// changed, by `Unframed` (1), `UnwantedKind` (2), `WrongLength` (3), an entry's `UnknownRow` (5) to `TooLarge` (10),
     /// `Superseded` (21), `Contradicted` (22) or `BookFull` (23); the smallest that applies is returned.
     pub fn send(&mut self, bytes: &[u8]) -> Result<(), Refusal>
@@ -74,8 +68,8 @@ impl<S: FactorSource> Sheet<S> {
         pages::write_page(self.book.totals(), cut, figures)
     }
 
-    /// The highest grade that the building meets by the entries in the book. Only the energy of use matters, so before
-    /// such entries are sent it may be too good.
+    /// The highest grade that the building meets by the entries in the book. Only the energy of use matters: until all of
+    /// it has been sent, the grade may be better than the building will keep.
     pub fn grade(&self) -> Grade
         ensures value { GivesGrade (state_of S.factor_map self.now) (grade_number result) }
         ensures law { KeepsLaw (state_of S.factor_map self.now) (grade_event (grade_number result)) }

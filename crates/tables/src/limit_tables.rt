@@ -49,7 +49,7 @@ pub(crate) fn print_others(rt: &impl Print, grade: Grade, name: &str) -> io::Res
     Ok(())
 }
 
-// A limit in kilograms, or a stroke where there is none. A `!` behind it would mean that the grade is given one gram
+// A limit in kilograms, or a dash where there is none. A `!` behind it would mean that the grade is given one gram
 // beyond it too.
 fn print_limit(rt: &impl Print, grade: Grade, building: &Building) -> io::Result<()> {
     let Some(limit) = largest_limit(grade, building) else {

@@ -3,7 +3,7 @@ use Rattle.std.proofs.Common.{◌≡◌, ℕ, zero, suc, ◌+◌, ◌<◌, ◌�
 use Rattle.std.proofs.lemmas.Int.{ints, to_z-of_z, fits_signed_from_abs}
 use Rattle.std.proofs.lemmas.List.{drop_more, drop_all}
 use Rattle.std.proofs.lemmas.List.Sums.{sum_by-set, get_or-le-sum_by}
-use Rattle.totals.specs.Sizes.{max_size}
+use Rattle.totals.specs.Sizes.{max_total_grams}
 use Rattle.totals.specs.Sums.{sum_in, grams_in, count_in, numbered_rows, Sums}
 
 -- the sums of grams and of counts, each with the number of its row
@@ -94,7 +94,7 @@ abbrev pub held : ℤ → ℤ
 held z = to_z w64 (of_z w64 z)
 
 -- two numbers whose sizes together are within the bound: their sum fits in 64 bits, and is read back as it is
-module _ (a b : ℤ) (in_bounds : unsigned_abs a + unsigned_abs b ≤ max_size) where
+module _ (a b : ℤ) (in_bounds : unsigned_abs a + unsigned_abs b ≤ max_total_grams) where
   held_both : held a +ℤ held b ≡ a +ℤ b
   held_both = rw (to_z-of_z w64 a (fits_signed_from_abs w64 a (omega arith)), to_z-of_z w64 b (fits_signed_from_abs w64 b (omega arith))) refl
 

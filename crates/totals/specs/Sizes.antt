@@ -6,9 +6,9 @@ abbrev pub max_count : ℕ
 max_count = 512
 
 -- the grams of 512 lines of the largest grams
-abbrev pub max_size : ℕ
-max_size = max_count * 100000000000000
+abbrev pub max_total_grams : ℕ
+max_total_grams = max_count * 100000000000000
 
 -- within that size, on either side of zero
 abbrev pub IsWithinTotals : ℤ → Type 0
-IsWithinTotals w = unsigned_abs w ≤ max_size
+IsWithinTotals w = unsigned_abs w ≤ max_total_grams

@@ -8,9 +8,11 @@ module _ {X : Type 0} (none : X) (plus : X → X → X) (choice : ℕ → Bool) 
   sum_in [] = none
   sum_in (v ∷ vs) = if choice v.0 then plus v.1 (sum_in vs) else sum_in vs
 
+-- the signed grams in chosen rows
 abbrev pub grams_in : (ℕ → Bool) → List (ℕ × ℤ) → ℤ
 grams_in choice = sum_in (pos 0) ◌+ℤ◌ choice
 
+-- the number of entries in chosen rows
 abbrev pub count_in : (ℕ → Bool) → List (ℕ × ℕ) → ℕ
 count_in choice = sum_in 0 ◌+◌ choice
 
@@ -24,6 +26,7 @@ pub record Sums : Type 0 where
   pub grams : (ℕ → Bool) → ℤ
   pub counts : (ℕ → Bool) → ℕ
 
+-- the sums of totals, whose values stand in the order of their rows
 abbrev pub sums_of : Totals → Sums
 sums_of t = record {
   grams = λ choice. grams_in choice (numbered_rows 1 t.grams);

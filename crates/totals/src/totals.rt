@@ -1,6 +1,6 @@
 //! The value that pages and grades are drawn from.
 ghost use Rattle.std.specs.Prelude.{◌≤◌, sum_by, sum, unsigned_abs};
-ghost use Rattle.totals.specs.Sizes.{max_size, max_count};
+ghost use Rattle.totals.specs.Sizes.{max_total_grams, max_count};
 
 /// The number of rows of a sheet.
 pub const ROWS: usize = 22;
@@ -14,6 +14,6 @@ pub struct Totals {
     pub grams: [i64; ROWS],
     /// The number of entries that the grams are of. The counts sum to at most 512.
     pub counts: [u16; ROWS],
-    ghost grams_within: { sum_by unsigned_abs grams ≤ max_size },
+    ghost grams_within: { sum_by unsigned_abs grams ≤ max_total_grams },
     ghost counts_within: { sum counts ≤ max_count },
 }

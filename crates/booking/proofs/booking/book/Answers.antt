@@ -1,6 +1,6 @@
 use Rattle.std.proofs.Common.{arith, rules}
 use Rattle.std.proofs.lemmas.Result.{err_from_is_err_and}
-use Rattle.refusals.specs.declared.refusal.Refusal.TheVariants.{UnfitSpan, UnfitQuantity}
+use Rattle.refusals.specs.declared.refusal.Refusal.TheVariants.{InvalidSpan, InvalidQuantity}
 use Rattle.refusals.specs.Refusals.{refusal_number}
 use Rattle.refusals.proofs.Deciding.{hold_at}
 use Rattle.booking.specs.Booking.{own_conditions}
@@ -26,8 +26,8 @@ pub grams-requires : goal.grams-requires
 grams-requires g c =
     let e = c.args.entry.now in
     let activity = c.in_ok-activity.ensures in
-    let thousandths = booked_range e.quantity (hold_at (refusal_number UnfitQuantity) (own_conditions e) activity.0) in
-    let divisor = divisor_range (method e.head.row) e.head.span (hold_at (refusal_number UnfitSpan) (own_conditions e) activity.0) in
+    let thousandths = booked_range e.quantity (hold_at (refusal_number InvalidQuantity) (own_conditions e) activity.0) in
+    let divisor = divisor_range (method e.head.row) e.head.span (hold_at (refusal_number InvalidSpan) (own_conditions e) activity.0) in
     record {
       thousandths = omega (arith, thousandths, activity.1.counts);
       divisor = (omega (arith, divisor, activity.1.divides), omega (arith, divisor, activity.1.divides));

@@ -1,7 +1,7 @@
 use Rattle.std.proofs.Common.{◌∙◌, ◌++◌, ◌∷◌, [], sym, ap, subst}
 use Rattle.std.proofs.lemmas.List.{take_all}
 use Rattle.listing.proofs.FitRows.{fit, row_more, refusal_more, fit_rows}
-use Rattle.listing.specs.Bases.{KeepsFitRows}
+use Rattle.listing.specs.Bases.{KeepsFitFactorRows}
 use Rattle.listing.proofs.basis.fit_rows.Goals as goal
 
 pub loop-answer-preserved-in_default : goal.loop-answer-preserved-in_default
@@ -14,4 +14,4 @@ loop-answer-preserved c =
 
 pub returns : goal.returns
 returns c = λ notes read.
-    subst (KeepsFitRows notes) (sym (c.loop-answer.invariant ∙ ap fit (take_all c.loop-answer.answer-index c.args.answers.now c.loop-answer-test.false))) (fit_rows notes c.args.answers.now read)
+    subst (KeepsFitFactorRows notes) (sym (c.loop-answer.invariant ∙ ap fit (take_all c.loop-answer.answer-index c.args.answers.now c.loop-answer-test.false))) (fit_rows notes c.args.answers.now read)

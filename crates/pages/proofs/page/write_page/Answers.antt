@@ -3,11 +3,11 @@ use Rattle.pages.proofs.Drawing.{page, near_page, none_drawn, sum_fits, count_fi
 use Rattle.pages.proofs.page.write_page.Goals as goal
 
 pub returns-then-figures-HEADINGS-clause-near : goal.returns-then-figures-HEADINGS-clause-near
-returns-then-figures-HEADINGS-clause-near g c = near_page (page c.args.totals (g.met.C.Cut.lawful c.args.cut.now) (g.met.C.Cut.sized c.args.cut.now) (search rules) (search rules))
+returns-then-figures-HEADINGS-clause-near g c = near_page (page c.args.totals (g.met.C.Cut.lawful c.args.cut.now) (g.met.C.Cut.size_is_headings c.args.cut.now) (search rules) (search rules))
 
 pub loop-k-init : goal.loop-k-init
 loop-k-init g c = none_drawn (record {
-  page = page c.args.totals (g.met.C.Cut.lawful c.args.cut.now) (g.met.C.Cut.sized c.args.cut.now) (search rules) (search rules);
+  page = page c.args.totals (g.met.C.Cut.lawful c.args.cut.now) (g.met.C.Cut.size_is_headings c.args.cut.now) (search rules) (search rules);
   grams_under = search rules;
   counts_under = search rules;
   same = c.totals_by_heading-sums.ensures;

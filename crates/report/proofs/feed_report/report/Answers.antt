@@ -1,7 +1,7 @@
 use Rattle.std.proofs.Common.{Err, string_bytes}
 use Rattle.std.proofs.lemmas.Result.{IfOk-weaker}
 use Rattle.report.specs.Reports.{IsReportText, denied, of_project}
-use Rattle.report.specs.Projects.{Opens}
+use Rattle.report.specs.Projects.{GivesProject}
 use Rattle.report.proofs.Only.{only_report, lawful_report}
 use Rattle.report.proofs.feed_report.report.Goals as goal
 
@@ -14,6 +14,6 @@ returns-in-Ok c =
 pub returns-in-Err-Refused : goal.returns-in-Err-Refused
 returns-in-Err-Refused c =
     let feed = c.args.feed.now in
-    let opens : Opens feed (Err c.in-Err-Refused.refusal) = rw c.in-Err-Refused.field-0-is at c.in-Err-Refused.ensures in
+    let opens : GivesProject feed (Err c.in-Err-Refused.refusal) = rw c.in-Err-Refused.field-0-is at c.in-Err-Refused.ensures in
     let value = IfOk-weaker c.denied_line.result _ (λ s. IsReportText feed (string_bytes s)) (λ s is. denied opens is) c.denied_line.ensures in
     record { value = value; only = only_report feed c.denied_line.result value; law = lawful_report feed c.denied_line.result value }

@@ -6,7 +6,7 @@ use Rattle.feed.proofs.FactorRows.{no_rows_yet, row_more, no_row_more}
 use Rattle.feed.proofs.opening.Opening.read.Goals as goal
 
 pub loop-note-init : goal.loop-note-init
-loop-note-init c = no_rows_yet c.next.new.self (called (opened c.new-rest.ensures) c.next.ensures.value) c.new-rows.ensures.items
+loop-note-init c = no_rows_yet c.try_next.new.self (called (opened c.new-rest.ensures) c.try_next.ensures.value) c.new-rows.ensures.items
 
 pub loop-note-smaller : goal.loop-note-smaller
 loop-note-smaller c = fewer_left c.in-Some.ensures.1
@@ -18,7 +18,7 @@ pub returns : goal.returns
 returns c =
     let reads = c.in_ok-building.ensures.value in
     let found = no_row_more c.loop-note.invariant c.in_default.ensures in
-    let passed = first_passed c.next.result c.next.new.self c.new-rest.ensures c.next.ensures.value reads.0.0 in
+    let passed = first_passed c.try_next.result c.try_next.new.self c.new-rest.ensures c.try_next.ensures.value reads.0.0 in
     record {
       notes = found.notes;
       opens = record { building = reads; rows = rw passed at found.rows };

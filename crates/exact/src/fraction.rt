@@ -6,7 +6,7 @@ use crate::rounding;
 
 /// The fraction `numerator / divisor`. No `PartialEq`, since one half is both 1/2 and 2/4.
 #[derive(Clone, Copy, Debug)]
-pub struct Ratio {
+pub struct Fraction {
     /// The numerator, any number.
     pub numerator: i64,
     /// The divisor, above 0.
@@ -14,7 +14,7 @@ pub struct Ratio {
     ghost divides: { 0 < divisor },
 }
 
-impl Ratio {
+impl Fraction {
     /// Rounds to the nearest whole number, a half going up, also below zero: -1/2 gives 0.
     pub fn round(self) -> i64
         ensures value { result ≡ nearest_whole (over self.numerator self.divisor) }

@@ -2,7 +2,7 @@ use Rattle.std.proofs.Common.{◌≡◌, pos, ◌+ℤ◌, ◌*ℤ◌, nat_abs, �
 use Rattle.std.proofs.lemmas.Int.{ints, to_z-of_z}
 use Rattle.exact.proofs.Nearness.{rounding}
 use Rattle.exact.proofs.Products.{whole_and_rest}
-use Rattle.exact.proofs.ratio.Ratio.round.Goals as goal
+use Rattle.exact.proofs.fraction.Fraction.round.Goals as goal
 
 -- the quotient and the rest that the code computes give back the numerator
 parts : (c : goal.After-round) → c.div_euclid-whole.result *ℤ pos c.args.self.divisor +ℤ c.rem_euclid-rest.result ≡ c.args.self.numerator

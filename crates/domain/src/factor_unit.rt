@@ -1,5 +1,4 @@
 //! The units that factors are per, with their numbers in a feed.
-ghost use Rattle.std.specs.Prelude.{◌≡◌};
 ghost use Rattle.domain.specs.Numbers.{unit_number};
 ghost use Rattle.domain.specs.Ranges.{IsUnitNumber};
 ghost use Rattle.refusals.specs.declared.refusal.Refusal.TheVariants.{OutOfRange};

@@ -4,7 +4,7 @@ use Rattle.std.proofs.lemmas.Nat.{pow_pos, pow_below, shr_le, shr_split}
 use Rattle.std.proofs.lemmas.Int.{ints}
 use Rattle.exact.specs.Rounding.{over, nearest_whole}
 use Rattle.exact.proofs.Nearness.{nearest_small, nearest_natural}
-use Rattle.exact.proofs.binary.Binary.round.Goals as goal
+use Rattle.exact.proofs.binary_fraction.BinaryFraction.round.Goals as goal
 
 pub returns-then-shift-gt63 : goal.returns-then-shift-gt63
 returns-then-shift-gt63 c = let far : 64 ≤ c.args.self.shift = omega arith in nearest_small c.args.self.numerator (2 ^ c.args.self.shift) (omega (arith, pow_mono far))

@@ -9,7 +9,7 @@ use crate::rounding;
 /// Not a `Ratio`, since the divisor of a measured quantity may be as large as 2^1074. No `PartialEq`, since one number
 /// can be written with many shifts.
 #[derive(Clone, Copy, Debug)]
-pub struct Binary {
+pub struct BinaryFraction {
     /// The numerator, below 2^63.
     pub numerator: u64,
     /// The exponent of the divisor, any number.
@@ -17,7 +17,7 @@ pub struct Binary {
     ghost fits: { numerator < 2 ^ 63 },
 }
 
-impl Binary {
+impl BinaryFraction {
     /// Rounds to the nearest whole number, a half going up.
     pub fn round(self) -> u64
         ensures { pos result ≡ nearest_whole (over (pos self.numerator) (2 ^ self.shift)) }
