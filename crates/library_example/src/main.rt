@@ -1,4 +1,4 @@
-//! How a program of one's own uses the library: it opens the sheet of a school, sends five notes, one of which is refused,
+//! How your own program uses the library: it opens the sheet of a school, sends five notes, one of which is refused,
 //! and prints two pages and the grade.
 #![tactic(auto)]
 
@@ -44,7 +44,7 @@ fn main(rt: HostRuntime) -> anyhow::Result<()> {
         // 2.5 tonnes of cement, and then its amendment, 3 tonnes
         entry(1, 0, Row::Production, 7, 2_500),
         entry(1, 1, Row::Production, 7, 3_000),
-        // 30,000 kilowatt-hours a year, and 2,000 a year of one's own
+        // 30,000 kilowatt-hours a year, and 2,000 a year generated on site
         entry(2, 0, Row::EquipmentEnergyBought, 1, 30_000_000),
         entry(3, 0, Row::Renewables, 1, 2_000_000),
         // a tonne of recycled material: the new one, code 9, has no factor
