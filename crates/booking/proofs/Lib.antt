@@ -1,5 +1,5 @@
-pub mod Kept
+pub mod BookedEntries
 mod Measures
 mod Patterns
-pub mod Single
-mod Calculating
+pub mod OneResult
+mod Results

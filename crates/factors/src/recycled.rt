@@ -33,11 +33,11 @@ impl<S: FactorSource> FactorSource for Recycled<S> {
         if new.unit != FactorUnit::Tonne {
             return Err(Lack { code });
         }
-        Ok(halved(new))
+        Ok(half_of(new))
     }
 }
 
-fn halved(new: Factor) -> Factor
+fn half_of(new: Factor) -> Factor
     ensures { factor_numbers result ≡ half_factor (factor_numbers new) }
 {
     let half = Fraction {

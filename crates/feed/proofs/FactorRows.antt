@@ -8,8 +8,8 @@ use Rattle.feed.specs.Feeds.{ReaderAnswer, part_bytes, rest_of, HandsOutFactorRo
 use Rattle.feed.specs.Frames.{first_note, rest_after_first}
 use Rattle.feed.specs.Readings.{ReadsFactorRow}
 use Rattle.feed.specs.FactorRows.{StartsWithFactorRows, row, ended, ReadsEachRow, none, one}
-use Rattle.feed.proofs.Looping.{SoFar, none_yet, one_more, all}
-use Rattle.feed.proofs.Running.{hands_left, hands_next}
+use Rattle.feed.proofs.ReaderLoop.{SoFar, none_yet, one_more, all}
+use Rattle.feed.proofs.ReaderLaw.{hands_left, hands_next}
 
 pub rows_only : (bs : List ℕ) (notes notes' : List (List ℕ)) (left left' : List ℕ) → StartsWithFactorRows bs notes left → StartsWithFactorRows bs notes' left' → (notes ≡ notes') × (left ≡ left')
 rows_only bs notes notes' left left' (row {notes = ns} first more) (row {notes = ns'} first' more') =

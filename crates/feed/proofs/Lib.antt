@@ -1,8 +1,8 @@
 pub mod Framing
 pub mod Reading
-pub mod Running
-pub mod Ending
-pub mod Beginning
-pub mod Looping
+pub mod ReaderLaw
+pub mod ReaderEnds
+pub mod FirstNote
+pub mod ReaderLoop
 pub mod FactorRows
-pub mod Enough
+pub mod ReadLimit

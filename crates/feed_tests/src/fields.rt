@@ -11,7 +11,7 @@ const BUILDING: [u8; 18] = [18, 0, 1, 0, 0x10, 0x27, 0, 0, 50, 0, 2, 0, 2, 0, 1,
 const FACTOR: [u8; 14] = [14, 0, 2, 0, 7, 0, 0, 0, 0xC0, 0xCF, 0x6A, 0, 1, 0];
 
 // The number by which reading is refused; none for a value.
-fn refused<T: Drop>(answer: Result<T, Refusal>) -> Option<u8> {
+fn refusal_number<T: Drop>(answer: Result<T, Refusal>) -> Option<u8> {
     answer.err().map(Refusal::number)
 }
 
@@ -60,7 +60,7 @@ fn a_building(rt: HostRuntime) {
     for (at, width, value, expected) in cases {
         let mut note = BUILDING;
         put(&mut note, at, width, value);
-        assert_eq!(rt; refused(read_building(&note)), expected, "{value}");
+        assert_eq!(rt; refusal_number(read_building(&note)), expected, "{value}");
     }
 }
 
@@ -83,7 +83,7 @@ fn a_factor_row(rt: HostRuntime) {
     for (at, width, value, expected) in cases {
         let mut note = FACTOR;
         put(&mut note, at, width, value);
-        assert_eq!(rt; refused(read_factor_row(&note)), expected, "{value}");
+        assert_eq!(rt; refusal_number(read_factor_row(&note)), expected, "{value}");
     }
 }
 
@@ -91,15 +91,15 @@ fn a_factor_row(rt: HostRuntime) {
 #[test]
 fn the_smallest_number(rt: HostRuntime) {
     let short = b"\x08\0\x01\0\0\0\0\0";
-    assert_eq!(rt; refused(read_building(short)), Some(3));
-    assert_eq!(rt; refused(read_factor_row(short)), Some(2));
-    assert_eq!(rt; refused(Note::read(short)), Some(3));
-    assert_eq!(rt; refused(read_building(b"")), Some(1));
-    assert_eq!(rt; refused(read_factor_row(b"")), Some(1));
-    assert_eq!(rt; refused(Note::read(b"")), Some(1));
-    assert_eq!(rt; refused(NoteHead::read(b"\x12\0\x01")), Some(1));
-    assert_eq!(rt; refused(NoteHead::read(b"\x03\0\x01\0")), Some(1));
-    assert_eq!(rt; refused(NoteHead::read(b"\x04\0\x01\0")), None);
+    assert_eq!(rt; refusal_number(read_building(short)), Some(3));
+    assert_eq!(rt; refusal_number(read_factor_row(short)), Some(2));
+    assert_eq!(rt; refusal_number(Note::read(short)), Some(3));
+    assert_eq!(rt; refusal_number(read_building(b"")), Some(1));
+    assert_eq!(rt; refusal_number(read_factor_row(b"")), Some(1));
+    assert_eq!(rt; refusal_number(Note::read(b"")), Some(1));
+    assert_eq!(rt; refusal_number(NoteHead::read(b"\x12\0\x01")), Some(1));
+    assert_eq!(rt; refusal_number(NoteHead::read(b"\x03\0\x01\0")), Some(1));
+    assert_eq!(rt; refusal_number(NoteHead::read(b"\x04\0\x01\0")), None);
 }
 
 // Notes of every kind that are too long or too short, and notes of unknown kinds. Trailing bytes do not make up for a
@@ -128,7 +128,7 @@ fn every_kind(rt: HostRuntime) {
         let mut bytes = [0u8; 40];
         bytes[0] = length;
         bytes[2] = kind;
-        assert_eq!(rt; refused(Note::read(&bytes)), expected, "{kind}");
+        assert_eq!(rt; refusal_number(Note::read(&bytes)), expected, "{kind}");
     }
 }
 
@@ -162,6 +162,10 @@ fn a_plain_row(rt: HostRuntime) {
     ];
     for (amount, unit, expected) in cases {
         let numbers = FactorNumbers { amount, unit };
-        assert_eq!(rt; refused(Factor::try_from(numbers)), expected, "{amount}");
+        assert_eq!(rt;
+            refusal_number(Factor::try_from(numbers)),
+            expected,
+            "{amount}"
+        );
     }
 }

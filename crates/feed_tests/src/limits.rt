@@ -59,13 +59,13 @@ fn report_lines(alloc: Global, first: usize, count: usize, number: u8) -> io::Re
     Ok(text)
 }
 
-fn listed(alloc: Global, feed: &[u8]) -> io::Result<Vec<u8>> {
+fn listing_bytes(alloc: Global, feed: &[u8]) -> io::Result<Vec<u8>> {
     let mut text = Vec::new(alloc);
     write_listing(alloc, feed, &mut text)?;
     Ok(text)
 }
 
-fn reported(alloc: Global, feed: &[u8]) -> io::Result<Vec<u8>> {
+fn report_bytes(alloc: Global, feed: &[u8]) -> io::Result<Vec<u8>> {
     let mut text = Vec::new(alloc);
     write_report(alloc, feed, &mut text)?;
     Ok(text)
@@ -76,8 +76,8 @@ fn of_unknown_kinds(rt: HostRuntime) -> Result<(), Fail> {
     let alloc = rt.alloc();
     let feed = full_feed(alloc, &UNKNOWN, 16_379)?;
     let words = "unknown kind=9 length=4 refused 2";
-    assert!(rt; listed(alloc, feed.as_slice())? == listing_lines(alloc, 16_379, 4, words)?);
-    assert!(rt; reported(alloc, feed.as_slice())? == report_lines(alloc, 1, 16_379, 2)?);
+    assert!(rt; listing_bytes(alloc, feed.as_slice())? == listing_lines(alloc, 16_379, 4, words)?);
+    assert!(rt; report_bytes(alloc, feed.as_slice())? == report_lines(alloc, 1, 16_379, 2)?);
     Ok(())
 }
 
@@ -86,9 +86,9 @@ fn of_factor_rows(rt: HostRuntime) -> Result<(), Fail> {
     let alloc = rt.alloc();
     let feed = full_feed(alloc, &FACTOR, 4_679)?;
     let words = "factor code=7 amount=7000000 unit=1";
-    assert!(rt; listed(alloc, feed.as_slice())? == listing_lines(alloc, 4_679, 14, words)?);
+    assert!(rt; listing_bytes(alloc, feed.as_slice())? == listing_lines(alloc, 4_679, 14, words)?);
     assert_eq!(rt;
-        reported(alloc, feed.as_slice())?.as_slice(),
+        report_bytes(alloc, feed.as_slice())?.as_slice(),
         &b"denied 0 24\n"[..]
     );
     Ok(())
@@ -100,8 +100,8 @@ fn of_withdrawals(rt: HostRuntime) -> Result<(), Fail> {
     let alloc = rt.alloc();
     let feed = full_feed(alloc, &WITHDRAWAL, 5_459)?;
     let words = "withdrawal number=1 revision=1";
-    assert!(rt; listed(alloc, feed.as_slice())? == listing_lines(alloc, 5_459, 12, words)?);
-    assert!(rt; reported(alloc, feed.as_slice())? == report_lines(alloc, 2, 5_459, 21)?);
+    assert!(rt; listing_bytes(alloc, feed.as_slice())? == listing_lines(alloc, 5_459, 12, words)?);
+    assert!(rt; report_bytes(alloc, feed.as_slice())? == report_lines(alloc, 2, 5_459, 21)?);
     Ok(())
 }
 
@@ -111,11 +111,11 @@ fn of_one_byte_more(rt: HostRuntime) -> Result<(), Fail> {
     let mut feed = full_feed(alloc, &WITHDRAWAL, 5_459)?;
     feed.push(0)?;
     assert_eq!(rt;
-        listed(alloc, feed.as_slice())?.as_slice(),
+        listing_bytes(alloc, feed.as_slice())?.as_slice(),
         &b"refused 25\n"[..]
     );
     assert_eq!(rt;
-        reported(alloc, feed.as_slice())?.as_slice(),
+        report_bytes(alloc, feed.as_slice())?.as_slice(),
         &b"denied 0 25\n"[..]
     );
     Ok(())

@@ -1,2 +1,2 @@
-mod Withdrawn
-mod Held
+mod WithdrawnFigures
+mod WorkedFigures

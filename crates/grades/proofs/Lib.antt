@@ -1,2 +1,2 @@
-pub mod Awarding
+pub mod OneGrade
 mod Energy

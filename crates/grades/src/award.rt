@@ -14,7 +14,7 @@ use domain::Building;
 use totals::Totals;
 
 /// The highest grade that the building meets, by its limit or its ratio, at the grams of energy in these totals.
-#[tactic(auto, using(crate::proofs::Awarding::one_grade))]
+#[tactic(auto, using(crate::proofs::OneGrade::one_grade))]
 pub fn grade(building: &Building, totals: Totals) -> Grade
     ensures awarded { IsAwarded (numbers_of building.now) (energy_emissions (sums_of totals)) (grade_number result) }
     ensures only { IsOnlyGrade (numbers_of building.now) (energy_emissions (sums_of totals)) (grade_number result) }

@@ -1,6 +1,6 @@
 mod FitRows
-mod Texts
-mod Turns
-mod Begun
-mod Only
-mod Enough
+mod NoteTexts
+mod ListingLoop
+mod OneBasis
+mod OneListing
+mod ReadLimit

@@ -1,6 +1,6 @@
-pub mod Heading
+pub mod HeadingLoop
 pub mod Parts
 pub mod Telescope
 pub mod Nearby
-pub mod Drawing
-pub mod Shown
+pub mod PageLoop
+pub mod WrittenPlaces

@@ -1,2 +1,2 @@
 pub mod Deciding
-pub mod Numbers
+pub mod RefusalNumbers

@@ -2,6 +2,6 @@ mod OwnRows
 mod Opening
 mod Sends
 mod Headings
-mod Concluding
-mod Only
-mod Enough
+mod ProjectTexts
+mod OneReport
+mod ReadLimit

@@ -8,8 +8,8 @@ use Rattle.feed.specs.declared.reader.Part.{Part}
 use Rattle.feed.specs.declared.reader.Reader.{Reader}
 use Rattle.feed.specs.Feeds.{part_bytes, rest_of, IsNewReader, HandsOut, IsRest, Stays}
 use Rattle.feed.specs.Frames.{IsFramed}
-use Rattle.feed.proofs.Looping.{SoFar, begun, one_more, stays, all}
-use Rattle.feed.proofs.Running.{hands_note}
+use Rattle.feed.proofs.ReaderLoop.{SoFar, begun, one_more, stays, all}
+use Rattle.feed.proofs.ReaderLaw.{hands_note}
 use Rattle.sheet.specs.PageAndGrade.{send_events}
 use Rattle.sheet.specs.Histories.{History, new, send, sent_bytes}
 use Rattle.sheet.specs.States.{State, new_state}

@@ -11,7 +11,7 @@ use sheet::Sheet;
 use std::alloc::{AllocError, Global};
 
 // Sends every note in order, and last the bytes that are left, if any. Returns the lines of the refused sends.
-#[tactic(auto, using(feed::proofs::Ending::fewer_left))]
+#[tactic(auto, using(feed::proofs::ReaderEnds::fewer_left))]
 pub(crate) fn send_all<S: FactorSource>(
     alloc: Global,
     sheet: &mut Sheet<S>,

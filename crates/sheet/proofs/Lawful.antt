@@ -13,7 +13,7 @@ use Rattle.pages.specs.Cuts.{Assignment}
 use Rattle.pages.specs.Pages.{Writes, total_figure, is_between, IsNearGrams}
 use Rattle.pages.proofs.Nearby.{near_between}
 use Rattle.pages.proofs.Parts.{Cutting}
-use Rattle.pages.proofs.Shown.{shown}
+use Rattle.pages.proofs.WrittenPlaces.{shown}
 use Rattle.pages.proofs.Telescope.{adds_up}
 use Rattle.sheet.specs.Histories.{DrawsPage, GivesGrade, Event, send_event, page_event, grade_event, History, new, send, page, grade, sent_bytes}
 use Rattle.sheet.specs.Laws.{IsNear, IsLawfulPage, IsLawfulGrade, NoneAccepted, IsLawful}
@@ -21,9 +21,9 @@ use Rattle.sheet.specs.LineSums.{held_lines, sums_of_lines, booked_sums}
 use Rattle.sheet.specs.Rolls.{entries_of, AreCounted}
 use Rattle.sheet.specs.States.{State}
 use Rattle.sheet.proofs.Deciders.{decide}
-use Rattle.sheet.proofs.Exactly.{Fit, Away, away_sum, sums_add, lines_taken, entries_kept}
-use Rattle.sheet.proofs.Rolling.{roll_counts}
-use Rattle.sheet.proofs.Standing.{Standing, nothing_sent, sent_once}
+use Rattle.sheet.proofs.ExactSums.{Fit, Away, away_sum, sums_add, lines_taken, entries_kept}
+use Rattle.sheet.proofs.RollSteps.{roll_counts}
+use Rattle.sheet.proofs.HeldPlaces.{Standing, nothing_sent, sent_once}
 
 -- kilograms near the booked grams, which are at most n halves away from the exact ones, are near these
 near_exact : {kg g : ℤ} {n : ℕ} {x : Fraction} → IsNearGrams kg g → Away n g x → IsNear kg n x

@@ -1,9 +1,9 @@
 pub mod Places
 pub mod Sending
 pub mod Deciders
-pub mod Rolling
-pub mod Standing
-pub mod Exactly
-pub mod Tallying
+pub mod RollSteps
+pub mod HeldPlaces
+pub mod ExactSums
+pub mod LineTotals
 pub mod Lawful
-pub mod Accounting
+pub mod WholeHistories

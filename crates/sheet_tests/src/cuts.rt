@@ -11,7 +11,7 @@ fn figure(kilograms: i64, count: u16) -> Figure {
 }
 
 // The total and the grade of those three entries. The figures are written into the places.
-fn drawn<C: Cut>(
+fn page_of_three_entries<C: Cut>(
     cut: &C,
     figures: &mut [Figure],
 ) -> Result<(Result<Figure, Refusal>, Grade), Refusal> {
@@ -25,7 +25,7 @@ fn drawn<C: Cut>(
 #[test]
 fn by_stage(rt: HostRuntime) -> Result<(), Refusal> {
     let mut figures = [figure(-9, 9); 5];
-    let (total, grade) = drawn(&ByStage, &mut figures)?;
+    let (total, grade) = page_of_three_entries(&ByStage, &mut figures)?;
     assert_eq!(rt; total, Ok(figure(1, 3)));
     assert_eq!(rt; grade, Grade::NearZero);
     let expected = [
@@ -42,7 +42,7 @@ fn by_stage(rt: HostRuntime) -> Result<(), Refusal> {
 #[test]
 fn by_type(rt: HostRuntime) -> Result<(), Refusal> {
     let mut figures = [figure(-9, 9); 5];
-    let (total, _) = drawn(&ByType, &mut figures)?;
+    let (total, _) = page_of_three_entries(&ByType, &mut figures)?;
     assert_eq!(rt; total, Ok(figure(1, 3)));
     let expected = [
         figure(0, 0),
@@ -58,7 +58,7 @@ fn by_type(rt: HostRuntime) -> Result<(), Refusal> {
 #[test]
 fn by_row(rt: HostRuntime) -> Result<(), Refusal> {
     let mut figures = [figure(-9, 9); 23];
-    let (total, _) = drawn(&ByRow, &mut figures)?;
+    let (total, _) = page_of_three_entries(&ByRow, &mut figures)?;
     assert_eq!(rt; total, Ok(figure(1, 3)));
     let mut expected = [figure(0, 0); 23];
     expected[0] = figure(0, 1);
@@ -85,7 +85,7 @@ fn every_row(rt: HostRuntime) {
 #[test]
 fn too_few_places(rt: HostRuntime) -> Result<(), Refusal> {
     let mut figures = [figure(-9, 9); 3];
-    let (total, _) = drawn(&ByStage, &mut figures)?;
+    let (total, _) = page_of_three_entries(&ByStage, &mut figures)?;
     assert_eq!(rt; total, Err(Refusal::TooFewPlaces));
     assert_eq!(rt; figures, [figure(-9, 9); 3]);
     Ok(())

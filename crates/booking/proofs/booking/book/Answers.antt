@@ -5,9 +5,9 @@ use Rattle.refusals.specs.Refusals.{refusal_number}
 use Rattle.refusals.proofs.Deciding.{hold_at}
 use Rattle.booking.specs.Booking.{own_conditions}
 use Rattle.booking.specs.Rows.{method}
-use Rattle.booking.proofs.Kept.{divisor_range}
+use Rattle.booking.proofs.BookedEntries.{divisor_range}
 use Rattle.booking.proofs.Measures.{booked_range}
-use Rattle.booking.proofs.Calculating.{itself_refused, factor_refused, unit_refused, product_refused, calculated}
+use Rattle.booking.proofs.Results.{itself_refused, factor_refused, unit_refused, product_refused, calculated}
 use Rattle.booking.proofs.booking.book.Goals as goal
 
 pub returns-in_err-activity-clause-value : goal.returns-in_err-activity-clause-value

@@ -1,4 +1,4 @@
-use Rattle.feed.proofs.Enough.{read_to}
+use Rattle.feed.proofs.ReadLimit.{read_to}
 use Rattle.feed.proofs.input.read_feed.Goals as goal
 
 pub returns : goal.returns

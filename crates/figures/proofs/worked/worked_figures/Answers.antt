@@ -1,5 +1,5 @@
 use Rattle.std.proofs.Common.{refl}
-use Rattle.figures.proofs.Held.{figures_hold}
+use Rattle.figures.proofs.WorkedFigures.{figures_hold}
 use Rattle.figures.proofs.worked.worked_figures.Goals as goal
 
 pub returns : goal.returns

@@ -1,9 +1,9 @@
-use Rattle.feed.proofs.Ending.{fewer_left}
-use Rattle.feed.proofs.Looping.{begun}
+use Rattle.feed.proofs.ReaderEnds.{fewer_left}
+use Rattle.feed.proofs.ReaderLoop.{begun}
 use Rattle.listing.specs.Bases.{basis_of}
 use Rattle.listing.specs.Listings.{Lists, ListsFeed}
-use Rattle.listing.proofs.Turns.{line_more, last_more}
-use Rattle.listing.proofs.Only.{listing_only}
+use Rattle.listing.proofs.ListingLoop.{line_more, last_more}
+use Rattle.listing.proofs.OneListing.{listing_only}
 use Rattle.listing.proofs.feed_listing.listing.Goals as goal
 
 pub loop-part-init : goal.loop-part-init

@@ -1,7 +1,7 @@
 use Rattle.std.proofs.Common.{string_bytes}
-use Rattle.feed.proofs.Ending.{bytes_left}
+use Rattle.feed.proofs.ReaderEnds.{bytes_left}
 use Rattle.listing.specs.Bases.{basis_of}
-use Rattle.listing.proofs.Turns.{LinesSoFar}
+use Rattle.listing.proofs.ListingLoop.{LinesSoFar}
 use Rattle.listing.proofs.feed_listing.listing.Given as goal
 
 abbrev pub invariant-loop-part : goal.invariant-loop-part

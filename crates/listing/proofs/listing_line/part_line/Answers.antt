@@ -2,7 +2,7 @@ use Rattle.std.proofs.Common.{◌≡◌, ℕ, List, string_bytes}
 use Rattle.std.proofs.lemmas.Result.{IfOk-weaker}
 use Rattle.listing.specs.ListingLines.{IsLine}
 use Rattle.listing.specs.Bases.{basis_of}
-use Rattle.listing.proofs.Only.{line_only}
+use Rattle.listing.proofs.OneListing.{line_only}
 use Rattle.listing.proofs.listing_line.part_line.Goals as goal
 
 pub returns : goal.returns

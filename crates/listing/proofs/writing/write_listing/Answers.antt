@@ -1,8 +1,8 @@
 use Rattle.std.proofs.Common.{string_bytes, ◌∙◌, subst}
 use Rattle.std.proofs.lemmas.Result.{on_ok_weaker}
 use Rattle.std.specs.Io.KnownBytes.{Appends}
-use Rattle.feed.proofs.Enough.{written_for}
-use Rattle.listing.proofs.Enough.{is_listing}
+use Rattle.feed.proofs.ReadLimit.{written_for}
+use Rattle.listing.proofs.ReadLimit.{is_listing}
 use Rattle.listing.specs.WrittenListings.{ListsOrRefuses, IsListing}
 use Rattle.listing.proofs.writing.write_listing.Goals as goal
 

@@ -1,5 +1,5 @@
 use Rattle.std.proofs.Common.{rules, arith}
-use Rattle.pages.proofs.Heading.{none_yet, heading_at, sum_fits, one_row, all_rows}
+use Rattle.pages.proofs.HeadingLoop.{none_yet, heading_at, sum_fits, one_row, all_rows}
 use Rattle.pages.proofs.headings.totals_by_heading.Goals as goal
 
 pub loop-at-init : goal.loop-at-init

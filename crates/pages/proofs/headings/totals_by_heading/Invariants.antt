@@ -1,4 +1,4 @@
-use Rattle.pages.proofs.Heading.{SoFar}
+use Rattle.pages.proofs.HeadingLoop.{SoFar}
 use Rattle.pages.proofs.headings.totals_by_heading.Given as goal
 
 abbrev pub invariant-loop-at : goal.invariant-loop-at

@@ -1,5 +1,5 @@
 use Rattle.std.proofs.Common.{rules, arith}
-use Rattle.pages.proofs.Drawing.{page, near_page, none_drawn, sum_fits, count_fits, rest_fits, one_drawn, all_drawn, total_adds}
+use Rattle.pages.proofs.PageLoop.{page, near_page, none_drawn, sum_fits, count_fits, rest_fits, one_drawn, all_drawn, total_adds}
 use Rattle.pages.proofs.page.write_page.Goals as goal
 
 pub returns-then-figures-HEADINGS-clause-near : goal.returns-then-figures-HEADINGS-clause-near

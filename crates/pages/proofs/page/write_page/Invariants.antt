@@ -1,4 +1,4 @@
-use Rattle.pages.proofs.Drawing.{Drawn}
+use Rattle.pages.proofs.PageLoop.{Drawn}
 use Rattle.pages.proofs.page.write_page.Given as goal
 
 abbrev pub invariant-loop-k : goal.invariant-loop-k

@@ -2,7 +2,7 @@ use Rattle.std.proofs.Common.{Err, string_bytes}
 use Rattle.std.proofs.lemmas.Result.{IfOk-weaker}
 use Rattle.report.specs.Reports.{IsReportText, denied, of_project}
 use Rattle.report.specs.Projects.{GivesProject}
-use Rattle.report.proofs.Only.{only_report, lawful_report}
+use Rattle.report.proofs.OneReport.{only_report, lawful_report}
 use Rattle.report.proofs.feed_report.report.Goals as goal
 
 pub returns-in-Ok : goal.returns-in-Ok

@@ -2,7 +2,7 @@ use Rattle.std.proofs.Common.{◌∙◌}
 use Rattle.domain.specs.Buildings.{numbers_of}
 use Rattle.factors.specs.Layers.{project_map}
 use Rattle.report.specs.Projects.{parts_of_project}
-use Rattle.report.proofs.Concluding.{written}
+use Rattle.report.proofs.ProjectTexts.{written}
 use Rattle.report.proofs.project_report.project_report.Goals as goal
 
 pub returns : goal.returns

@@ -1,7 +1,7 @@
 use Rattle.std.proofs.Common.{◌≡◌, string_bytes}
 use Rattle.factors.specs.Maps.{FactorMap}
 use Rattle.domain.specs.declared.building.BuildingNumbers.{BuildingNumbers}
-use Rattle.feed.proofs.Ending.{bytes_left}
+use Rattle.feed.proofs.ReaderEnds.{bytes_left}
 use Rattle.sheet.specs.States.{state_of, new_state}
 use Rattle.report.proofs.Sends.{SentSoFar}
 use Rattle.report.proofs.sending.send_all.Given as goal

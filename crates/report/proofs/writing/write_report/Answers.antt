@@ -1,9 +1,9 @@
 use Rattle.std.proofs.Common.{ℕ, List, take, string_bytes, ◌∙◌, subst}
 use Rattle.std.proofs.lemmas.Result.{on_ok_weaker}
 use Rattle.std.specs.Io.KnownBytes.{Appends}
-use Rattle.feed.proofs.Enough.{written_for}
-use Rattle.report.proofs.Enough.{enough}
-use Rattle.report.proofs.Only.{is_report}
+use Rattle.feed.proofs.ReadLimit.{written_for}
+use Rattle.report.proofs.ReadLimit.{enough}
+use Rattle.report.proofs.OneReport.{is_report}
 use Rattle.report.specs.Reports.{IsReportText, IsReport}
 use Rattle.report.proofs.writing.write_report.Goals as goal
 

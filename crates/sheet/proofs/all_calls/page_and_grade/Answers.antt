@@ -1,6 +1,6 @@
 use Rattle.std.proofs.Common.{ap, map}
 use Rattle.std.proofs.lemmas.List.{map_more, take_all}
-use Rattle.sheet.proofs.Accounting.{none_sent, one_sent, accounted, page_drawn, grade_given}
+use Rattle.sheet.proofs.WholeHistories.{none_sent, one_sent, accounted, page_drawn, grade_given}
 use Rattle.sheet.proofs.all_calls.page_and_grade.Goals as goal
 
 pub loop-bytes-init : goal.loop-bytes-init

@@ -1,7 +1,7 @@
 use Rattle.std.proofs.Common.{map, take}
 use Rattle.domain.specs.Buildings.{numbers_of}
 use Rattle.sheet.specs.States.{state_of}
-use Rattle.sheet.proofs.Accounting.{SoFar}
+use Rattle.sheet.proofs.WholeHistories.{SoFar}
 use Rattle.sheet.proofs.all_calls.page_and_grade.Given as goal
 
 abbrev pub invariant-loop-bytes : goal.invariant-loop-bytes

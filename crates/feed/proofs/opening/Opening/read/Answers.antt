@@ -1,7 +1,7 @@
 use Rattle.std.proofs.Common.{sym, subst}
 use Rattle.feed.specs.Feeds.{ReaderHistory, opened, called}
-use Rattle.feed.proofs.Beginning.{first_passed}
-use Rattle.feed.proofs.Ending.{fewer_left}
+use Rattle.feed.proofs.FirstNote.{first_passed}
+use Rattle.feed.proofs.ReaderEnds.{fewer_left}
 use Rattle.feed.proofs.FactorRows.{no_rows_yet, row_more, no_row_more}
 use Rattle.feed.proofs.opening.Opening.read.Goals as goal
 

@@ -1,5 +1,5 @@
 use Rattle.std.proofs.Common.{vec_items}
-use Rattle.feed.proofs.Ending.{bytes_left}
+use Rattle.feed.proofs.ReaderEnds.{bytes_left}
 use Rattle.feed.proofs.FactorRows.{RowsSoFar}
 use Rattle.feed.proofs.opening.Opening.read.Given as goal
 

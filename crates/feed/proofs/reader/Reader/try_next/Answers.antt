@@ -4,7 +4,7 @@ use Rattle.feed.specs.declared.reader.Part.{Part}
 use Rattle.feed.specs.Feeds.{AnswersNext, HandsOut, rest_of}
 use Rattle.feed.specs.Frames.{IsFramed, first_note}
 use Rattle.feed.proofs.Framing.{length_first}
-use Rattle.feed.proofs.Running.{lawful_call}
+use Rattle.feed.proofs.ReaderLaw.{lawful_call}
 use Rattle.feed.proofs.reader.Reader.try_next.Goals as goal
 
 pub returns-then-is_empty : goal.returns-then-is_empty

@@ -1,6 +1,6 @@
 use Rattle.std.proofs.Common.{Ok, Err, sym, subst}
 use Rattle.feed.specs.FactorRows.{ReadsEachRow}
-use Rattle.feed.proofs.Beginning.{building_once}
+use Rattle.feed.proofs.FirstNote.{building_once}
 use Rattle.listing.specs.Bases.{building, no_building}
 use Rattle.listing.proofs.basis.BookingBasis.read.Goals as goal
 

@@ -1,7 +1,7 @@
 use Rattle.std.proofs.Common.{ap, ◌∙◌, map, sym}
 use Rattle.sheet.specs.LineSums.{held_lines, sums_of_lines}
 use Rattle.sheet.specs.Places.{place_numbers}
-use Rattle.sheet.proofs.Tallying.{none_tallied, all_tallied, as_added, passed, sum_fits, added_line}
+use Rattle.sheet.proofs.LineTotals.{none_tallied, all_tallied, as_added, passed, sum_fits, added_line}
 use Rattle.sheet.proofs.book.Book.totals.Goals as goal
 use Rattle.sheet.proofs.book.Book.totals.Goals.{in-Some, in_default}
 

@@ -1,4 +1,4 @@
-use Rattle.sheet.proofs.Tallying.{Tallied}
+use Rattle.sheet.proofs.LineTotals.{Tallied}
 use Rattle.sheet.proofs.book.Book.totals.Given as goal
 
 abbrev pub invariant-loop-place : goal.invariant-loop-place

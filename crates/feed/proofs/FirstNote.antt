@@ -11,7 +11,7 @@ use Rattle.feed.specs.FactorFields.{IsFactorRow}
 use Rattle.feed.specs.Feeds.{ReaderAnswer, rest_of, IsNewReader, HandsOut, AnswersNext}
 use Rattle.feed.specs.Frames.{IsFramed, first_note, rest_after_first}
 use Rattle.feed.specs.Readings.{ReadsBuilding, ReadsFactorRow, reading_conditions}
-use Rattle.feed.proofs.Running.{hands_left}
+use Rattle.feed.proofs.ReaderLaw.{hands_left}
 use Rattle.refusals.specs.declared.refusal.Refusal.{Refusal}
 use Rattle.refusals.proofs.Deciding.{SameAnswer, answer_unique}
 

@@ -3,7 +3,7 @@ use Rattle.std.proofs.Common.{◌≡◌, ℕ, ◌+◌, List, [], ◌++◌, lengt
 use Rattle.feed.specs.declared.reader.Part.{Part}
 use Rattle.feed.specs.declared.reader.Reader.{Reader}
 use Rattle.feed.specs.Feeds.{part_bytes, rest_of, IsNewReader, HandsOut, Stays}
-use Rattle.feed.proofs.Running.{hands_next, stays_left}
+use Rattle.feed.proofs.ReaderLaw.{hands_next, stays_left}
 
 -- Of k at bytes xs: the results xs are right for bytes whose first note has the place k and comes after `at` bytes of a
 -- feed

@@ -4,8 +4,8 @@ use Rattle.feed.specs.declared.reader.Part.{Part}
 use Rattle.feed.specs.declared.reader.Reader.{Reader}
 use Rattle.feed.specs.Feeds.{part_bytes, rest_of, HandsOut, Stays, IsRest}
 use Rattle.feed.specs.Frames.{IsFramed}
-use Rattle.feed.proofs.Looping.{SoFar, one_more, stays, all}
-use Rattle.feed.proofs.Running.{hands_note}
+use Rattle.feed.proofs.ReaderLoop.{SoFar, one_more, stays, all}
+use Rattle.feed.proofs.ReaderLaw.{hands_note}
 use Rattle.listing.specs.Bases.{Basis}
 use Rattle.listing.specs.ListingLines.{IsPartLine}
 use Rattle.listing.specs.Listings.{IsLastLine, Lists, note, last}

@@ -3,7 +3,7 @@ use Rattle.std.proofs.Common.{ℕ, ◌<◌, ◌≤◌, List, [], length, take, r
 use Rattle.refusals.specs.declared.refusal.Refusal.TheVariants.{FeedTooLong}
 use Rattle.refusals.specs.Refusals.{refusal_number, IsLeastFailing}
 use Rattle.refusals.proofs.Deciding.{least_failing, least_only}
-use Rattle.feed.proofs.Enough.{all_or_long}
+use Rattle.feed.proofs.ReadLimit.{all_or_long}
 use Rattle.report.specs.Projects.{length_conditions, too_long, no_building, row_refused, project}
 use Rattle.report.specs.Reports.{IsReportText, denied, of_project}
 

@@ -14,7 +14,7 @@ use Rattle.booking.specs.Booking.{HasFactor, GivesFactor, amount_of, unit_of, ow
 use Rattle.booking.specs.Methods.{unit_fits}
 use Rattle.booking.specs.Rows.{method}
 use Rattle.booking.specs.Emissions.{product, IsProductInRange, exact_divisor, IsLineGrams}
-use Rattle.booking.proofs.Kept.{grams_kept, grams_near}
+use Rattle.booking.proofs.BookedEntries.{grams_kept, grams_near}
 
 module _ (y : ℕ) (factor_map : FactorMap) (e : Entry) where
   -- where a condition on the entry alone fails, the refusal is the result; it is no lack

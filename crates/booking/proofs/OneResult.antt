@@ -5,7 +5,7 @@ use Rattle.factors.specs.Maps.{FactorMap}
 use Rattle.refusals.specs.declared.refusal.Refusal.{Refusal}
 use Rattle.refusals.specs.Refusals.{refusal_number, lack_number, refusal_codes}
 use Rattle.refusals.proofs.Deciding.{SameAnswer, answer_unique}
-use Rattle.refusals.proofs.Numbers.{no_codes}
+use Rattle.refusals.proofs.RefusalNumbers.{no_codes}
 use Rattle.domain.specs.declared.entry.Entry.{Entry}
 use Rattle.booking.specs.declared.line.BookedLine.{BookedLine}
 use Rattle.booking.specs.Booking.{line_numbers, booking_conditions, booked_line, Books}

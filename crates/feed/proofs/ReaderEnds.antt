@@ -3,7 +3,7 @@ use Rattle.std.proofs.Common.{ℕ, ◌-◌, ◌<◌, length, ap, arith}
 use Rattle.feed.specs.declared.reader.Part.{Part}
 use Rattle.feed.specs.declared.reader.Reader.{Reader}
 use Rattle.feed.specs.Feeds.{HandsOut}
-use Rattle.feed.proofs.Running.{hands_note}
+use Rattle.feed.proofs.ReaderLaw.{hands_note}
 
 -- the number of bytes that a reader has not handed out yet
 abbrev pub bytes_left : Reader → ℕ

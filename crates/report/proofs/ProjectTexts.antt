@@ -7,7 +7,7 @@ use Rattle.sheet.specs.PageAndGrade.{send_events}
 use Rattle.sheet.specs.Histories.{GivesGrade, page_event, grade_event, page, grade}
 use Rattle.sheet.specs.Laws.{IsLawfulPage, IsLawfulGrade}
 use Rattle.sheet.specs.States.{State}
-use Rattle.sheet.proofs.Accounting.{bytes_are}
+use Rattle.sheet.proofs.WholeHistories.{bytes_are}
 use Rattle.sheet.proofs.Lawful.{lawful}
 use Rattle.report.specs.ProjectReports.{SendsAll, IsProjectReport, EndsLawfully}
 use Rattle.report.specs.Calls.{history_text, WritesPage}

@@ -6,7 +6,7 @@ use Rattle.booking.specs.Booking.{booking_conditions}
 use Rattle.totals.specs.Sums.{sum_in, numbered_rows}
 use Rattle.pages.specs.Pages.{page_figures}
 use Rattle.figures.specs.Figures.{figures, AllTrue}
-use Rattle.figures.proofs.Withdrawn.{refused, none_counts, counts}
+use Rattle.figures.proofs.WithdrawnFigures.{refused, none_counts, counts}
 
 pub figures_hold : AllTrue figures
 unfolding nearest_whole booking_conditions round sum_in numbered_rows page_figures

@@ -5,7 +5,7 @@ use Rattle.std.proofs.lemmas.List.Elements.{All-push}
 use Rattle.std.specs.List.{flat_map, All}
 use Rattle.feed.specs.declared.reader.Part.{Part}
 use Rattle.feed.specs.declared.reader.Reader.{Reader}
-use Rattle.refusals.proofs.Numbers.{number_one}
+use Rattle.refusals.proofs.RefusalNumbers.{number_one}
 use Rattle.feed.specs.Feeds.{ReaderAnswer, part_bytes, rest_of, HandsOut, Stays, IsEndAnswer, AnswersNext, ReaderHistory, opened, called, handed_parts, AreConsecutive, IsRepeated, EndsTruly, IsLawfulReader}
 use Rattle.feed.specs.Frames.{IsOneNote, rest_after_first}
 use Rattle.feed.proofs.Framing.{one_first, first_whole}

@@ -15,8 +15,8 @@ use Rattle.sheet.specs.States.{State, new_state, content_conditions, send_condit
 use Rattle.feed.specs.Readings.{reading_conditions}
 use Rattle.feed.specs.SentNotes.{IsSent}
 use Rattle.sheet.proofs.Deciders.{decide, enters, all_enter, names_decide}
-use Rattle.sheet.proofs.Exactly.{Sound}
-use Rattle.sheet.proofs.Rolling.{places_numbers, places_enter, stays}
+use Rattle.sheet.proofs.ExactSums.{Sound}
+use Rattle.sheet.proofs.RollSteps.{places_numbers, places_enter, stays}
 use Rattle.sheet.proofs.Sending.{in_order}
 
 module _ (b : BuildingNumbers) (factor_map : FactorMap) where

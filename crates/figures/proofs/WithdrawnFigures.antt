@@ -12,7 +12,7 @@ use Rattle.sheet.specs.Places.{PlaceNumbers}
 use Rattle.sheet.specs.Placing.{IsNotSuperseded, Agrees, HasRoom, placing_conditions}
 use Rattle.sheet.specs.Rolls.{numbers, IsRoll, empty, on_roll}
 use Rattle.sheet.specs.States.{content_conditions, Sends}
-use Rattle.sheet.proofs.Rolling.{roll_counts}
+use Rattle.sheet.proofs.RollSteps.{roll_counts}
 use Rattle.figures.specs.Withdrawals.{withdrawal, entry_at, IsSentAs, IsRefusedBy, NoneCounts, CountsAt}
 
 -- a fit note is listed while there is room

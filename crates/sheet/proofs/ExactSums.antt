@@ -14,7 +14,7 @@ use Rattle.domain.specs.declared.entry.Entry.{Entry}
 use Rattle.booking.specs.Booking.{booked_line, booking_conditions}
 use Rattle.booking.specs.Rows.{IsRowNumber, is_subtracted}
 use Rattle.booking.specs.Emissions.{max_grams, signed_grams}
-use Rattle.booking.proofs.Kept.{row_kept, grams_kept, grams_near, exact_divides}
+use Rattle.booking.proofs.BookedEntries.{row_kept, grams_kept, grams_near, exact_divides}
 use Rattle.totals.specs.Sums.{sum_in}
 use Rattle.pages.proofs.Parts.{Additive, additive}
 use Rattle.sheet.specs.LineSums.{row_grams, row_count, line_in_range, held_lines, booked_sums, exact_emissions, exact_sum_in}

@@ -1,8 +1,8 @@
 -- What is written for the bytes that are read of a feed is what is written for the feed, and nothing else is.
 use Rattle.std.proofs.Common.{◌≡◌, ℕ, ◌<◌, ◌≤◌, List, length, take, sym, ◌∙◌, subst, ⊎_elim, arith}
 use Rattle.std.proofs.str.Laws.{order}
-use Rattle.feed.proofs.Enough.{all_or_long}
-use Rattle.listing.proofs.Only.{listing_only}
+use Rattle.feed.proofs.ReadLimit.{all_or_long}
+use Rattle.listing.proofs.OneListing.{listing_only}
 use Rattle.listing.specs.WrittenListings.{ListsOrRefuses, IsListing}
 
 -- two feeds that are both too long have the same text

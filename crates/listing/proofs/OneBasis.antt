@@ -3,7 +3,7 @@ use Rattle.std.proofs.Common.{◌≡◌, ℕ, List, ◌∷◌, Ok, Err, Option, 
 use Rattle.domain.specs.declared.building.Building.{Building}
 use Rattle.domain.specs.declared.factor.FactorRow.{FactorRow}
 use Rattle.feed.specs.Frames.{rest_after_first}
-use Rattle.feed.proofs.Beginning.{building_once, row_once}
+use Rattle.feed.proofs.FirstNote.{building_once, row_once}
 use Rattle.feed.proofs.FactorRows.{rows_only}
 use Rattle.factors.specs.Layers.{project_map}
 use Rattle.listing.specs.Bases.{KeepsFitFactorRows, none, row, passed, HasBasis, building, no_building, by, basis_with}

@@ -7,8 +7,8 @@ use Rattle.domain.specs.declared.entry.Entry.{Entry}
 use Rattle.booking.specs.Booking.{LineNumbers}
 use Rattle.booking.specs.Rows.{is_subtracted}
 use Rattle.booking.specs.Emissions.{signed_grams}
-use Rattle.booking.proofs.Single.{books_once, same_codes}
-use Rattle.listing.proofs.Texts.{says_one}
+use Rattle.booking.proofs.OneResult.{books_once, same_codes}
+use Rattle.listing.proofs.NoteTexts.{says_one}
 use Rattle.feed.specs.Frames.{IsFramed, first_note, note_kind}
 use Rattle.feed.specs.Kinds.{kind_of}
 use Rattle.feed.specs.Notes.{IsAnyKind, Says}
@@ -16,7 +16,7 @@ use Rattle.domain.specs.FieldTexts.{spaced_field}
 use Rattle.feed.specs.Readings.{reading_conditions, Reads}
 use Rattle.refusals.specs.Refusals.{lack_number, refusal_codes}
 use Rattle.refusals.specs.RefusalTexts.{refusal_text}
-use Rattle.refusals.proofs.Numbers.{no_codes, same_words}
+use Rattle.refusals.proofs.RefusalNumbers.{no_codes, same_words}
 use Rattle.refusals.proofs.Deciding.{SameAnswer, answer_unique, absent_not_least}
 use Rattle.feed.proofs.Framing.{framed_front, framed_or_not, front_only}
 use Rattle.listing.specs.declared.outcome.Outcome.{Outcome}
@@ -24,7 +24,7 @@ use Rattle.listing.specs.declared.outcome.Outcome.TheVariants.{Booked, Refused, 
 use Rattle.listing.specs.ListingLines.{kind_word_or_unknown, entry_of, IsRefusedText, IsOutcome, outcome_text, IsNoteOutcome, outcome_suffix, IsNoteText, IsAnswerText, IsStatement, IsLine}
 use Rattle.listing.specs.Bases.{Basis, unbooked, by, basis_with}
 use Rattle.listing.specs.Listings.{IsLastLine, Lists, note, last, ListsFeed}
-use Rattle.listing.proofs.Begun.{basis_only}
+use Rattle.listing.proofs.OneBasis.{basis_only}
 
 -- reading never refuses by `FactorLacking` (8), so its refusals name no codes
 names_none : (bs : List ℕ) (f : Refusal) → Reads {X = Note} IsAnyKind Says bs (Err f) → refusal_codes f ≡ []

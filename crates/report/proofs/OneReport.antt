@@ -14,23 +14,23 @@ use Rattle.feed.specs.FactorFields.{IsFactorRow}
 use Rattle.domain.specs.declared.building.Building.{Building}
 use Rattle.feed.specs.Frames.{IsFramed, IsOneNote, first_note, rest_after_first}
 use Rattle.feed.specs.Openings.{OpensWith}
-use Rattle.feed.proofs.Beginning.{building_once}
+use Rattle.feed.proofs.FirstNote.{building_once}
 use Rattle.feed.proofs.Framing.{framed_front, front_only}
 use Rattle.feed.proofs.FactorRows.{rows_only}
 use Rattle.sheet.specs.States.{State, send_conditions, Sends}
 use Rattle.sheet.specs.PageAndGrade.{send_events}
-use Rattle.sheet.proofs.Accounting.{bytes_are}
+use Rattle.sheet.proofs.WholeHistories.{bytes_are}
 use Rattle.sheet.specs.Histories.{History, page_event, grade_event, new, send, page, grade, sent_bytes, DrawsPage, GivesGrade}
-use Rattle.grades.proofs.Awarding.{one_grade}
+use Rattle.grades.proofs.OneGrade.{one_grade}
 use Rattle.factors.specs.Layers.{project_map}
 use Rattle.pages.specs.declared.figure.Figure.{Figure}
 use Rattle.pages.specs.Cuts.{by_stage}
-use Rattle.pages.proofs.Shown.{shown}
+use Rattle.pages.proofs.WrittenPlaces.{shown}
 use Rattle.report.specs.ProjectReports.{SplitsIntoSends, ended as all_sent, unframed, note, IsProjectReport, EndsLawfully}
 use Rattle.report.specs.Calls.{history_text, send_text}
 use Rattle.report.specs.ReportLines.{denied_line, page_lines, grade_line}
 use Rattle.report.specs.Reports.{IsReportText, denied, of_project, IsLawfulReport, IsReport}
-use Rattle.report.proofs.Concluding.{concludes}
+use Rattle.report.proofs.ProjectTexts.{concludes}
 use Rattle.report.specs.Projects.{length_conditions, factor_row_conditions, ReadsFactorRowAfter, ProjectParts, project_parts, TakesFactorRows, all, row, refused, GivesProject, too_long, no_building, row_refused, project}
 
 -- bytes that begin with a note are framed
