@@ -16,10 +16,11 @@ use Rattle.std.specs.declared.alloc.Global.{Global}
 use Rattle.report.specs.declared.project.Project.{Project}
 use Rattle.feed.specs.declared.opening.OpeningError.{OpeningError}
 use Rattle.feed.specs.declared.opening.OpeningError.TheVariants.{Refused, OutOfMemory}
+use Rattle.feed.specs.declared.input.TheConstants.{MAX_FEED_BYTES}
 
 -- the condition on a feed before any of its notes is read
 abbrev pub length_conditions : List ℕ → Conditions
-length_conditions feed = (refusal_number FeedTooLong, length feed ≤ 65536) ∷ []
+length_conditions feed = (refusal_number FeedTooLong, length feed ≤ MAX_FEED_BYTES) ∷ []
 
 -- the conditions of reading a note as a factor row, after n others
 abbrev pub factor_row_conditions : ℕ → List ℕ → Conditions

@@ -5,6 +5,7 @@ ghost use Rattle.feed.specs.FactorRows.{ReadsEachRow};
 ghost use Rattle.refusals.specs.declared.refusal.Refusal.TheVariants.{FeedTooLong};
 ghost use Rattle.refusals.specs.Refusals.{GivesOrRefusesBy};
 ghost use Rattle.report.specs.Projects.{ReadsProject, ReadsFactorRowAfter, ReadsOwnFactorRows};
+ghost use Rattle.feed.specs.declared.input.TheConstants.{MAX_FEED_BYTES};
 
 use domain::{Building, FactorRow};
 use feed::{MAX_FEED_BYTES, Opening, OpeningError};
@@ -40,7 +41,7 @@ impl<'a> Project<'a> {
 }
 
 fn check_length(feed: &[u8]) -> Result<(), Refusal>
-    ensures { GivesOrRefusesBy (length feed.now ≤ 65536) FeedTooLong (λ _. Unit {0}) result }
+    ensures { GivesOrRefusesBy (length feed.now ≤ MAX_FEED_BYTES) FeedTooLong (λ _. Unit {0}) result }
 {
     if feed.len() > MAX_FEED_BYTES {
         return Err(Refusal::FeedTooLong);
