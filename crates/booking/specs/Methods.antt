@@ -38,7 +38,8 @@ unit_fits DistanceBased u = u == unit_number TonneKilometre
 unit_fits Leakage u = u == unit_number Kilogram
 unit_fits k u = not (u == unit_number TonneKilometre)
 
--- r is what an entry with the span s is multiplied and divided by, in a building with a life of y years, if the span fits
+-- r is what an entry with the span s is multiplied and divided by, in a building with a life of y years, if the span
+-- fits
 abbrev pub GivesTerms : CalculationMethod → ℕ → ℕ → Result Terms Refusal → Type 0
 GivesTerms k y s r =
     GivesOrRefusesBy (SpanFits k s) InvalidSpan (λ t. (t.multiplier ≡ multiplier k y s) × (t.divisor ≡ divisor k s)) r

@@ -13,8 +13,8 @@ use factors::FactorSource;
 use refusals::{LackCodes, Refusal};
 
 /// Books an entry: returns its line, whose grams are nearest to the exact emissions. Refused by `UnknownRow` (5),
-/// `UnfitSpan` (6), `UnfitQuantity` (7), `FactorLacking` (8), `UnfitUnit` (9) or `TooLarge` (10). The source is asked
-/// once, and not at all where the entry is refused by 5, 6 or 7.
+/// `InvalidSpan` (6), `InvalidQuantity` (7), `FactorLacking` (8), `InvalidUnit` (9) or `TooLarge` (10). The source is
+/// asked once, and not at all where the entry is refused by 5, 6 or 7.
 pub fn book<S: FactorSource>(
     building: &Building,
     source: &S,

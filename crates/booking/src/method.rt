@@ -23,8 +23,8 @@ pub enum CalculationMethod {
     /// The quantity is that of one replacement, which comes each time the part has served its years. The span is
     /// those years, 1 to 100.
     Replacement,
-    /// The quantity is the charge of equipment in kilograms, which leaks out and is refilled once over the equipment's years. The
-    /// span is those years, 1 to 100. After the national standard for a building's carbon.
+    /// The quantity is the charge of equipment in kilograms, which leaks out and is refilled once over the equipment's
+    /// years. The span is those years, 1 to 100. After the national standard for a building's carbon.
     Leakage,
 }
 
@@ -39,7 +39,7 @@ pub struct Terms {
 }
 
 impl CalculationMethod {
-    /// The terms of an entry with this span, in a building with a life of these years. Refused by `UnfitSpan` (6).
+    /// The terms of an entry with this span, in a building with a life of these years. Refused by `InvalidSpan` (6).
     pub fn terms(self, years: u16, span: u16) -> Result<Terms, Refusal>
         ensures { GivesTerms self years span result }
     {

@@ -12,7 +12,7 @@ use refusals::Refusal;
 const MAX_COUNTED: u64 = 1_000_000_000;
 
 /// The booked thousandths of a unit, at most 1,000,000,000: those of a counted quantity unchanged, and those nearest to
-/// a measured one, a half going up. Refused by `UnfitQuantity` (7) if the quantity is above 1,000,000 units, negative
+/// a measured one, a half going up. Refused by `InvalidQuantity` (7) if the quantity is above 1,000,000 units, negative
 /// or not a number.
 pub fn thousandths(quantity: Quantity) -> Result<u64, Refusal>
     ensures value { BooksThousandths quantity result }

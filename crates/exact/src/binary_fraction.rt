@@ -6,8 +6,8 @@ use crate::rounding;
 
 /// The fraction `numerator / 2^shift`.
 ///
-/// Not a `Ratio`, since the divisor of a measured quantity may be as large as 2^1074. No `PartialEq`, since one number
-/// can be written with many shifts.
+/// Not a `Fraction`, since the divisor of a measured quantity may be as large as 2^1074. No `PartialEq`, since one
+/// number can be written with many shifts.
 #[derive(Clone, Copy, Debug)]
 pub struct BinaryFraction {
     /// The numerator, below 2^63.

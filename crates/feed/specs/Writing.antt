@@ -9,8 +9,8 @@ pub record WritesText (P : List ℕ → Type 0) (held holds : Option (List ℕ))
   pub says : P text
   pub appended : Appends held holds text
 
--- what is written of all that a reader had, where it is known what the reader had and what the writer held; IsTextOf says
--- which texts belong to a feed
+-- what is written of all that a reader had, where it is known what the reader had and what the writer held; IsTextOf
+-- says which texts belong to a feed
 abbrev pub WritesFor : (List ℕ → List ℕ → Type 0) → (had held holds : Option (List ℕ)) → Type 0
 WritesFor IsTextOf had held holds = IfSome had (λ feed. WritesText (IsTextOf feed) held holds)
 

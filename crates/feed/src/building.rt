@@ -13,7 +13,7 @@ use domain::{Building, BuildingNumbers};
 use refusals::Refusal;
 
 /// Reads a building from the first note of the bytes. What comes after that note plays no part. Refused by `Unframed`
-/// (1), `UnwantedKind` (2), `WrongLength` (3) or `OutOfRange` (4).
+/// (1), `UnexpectedKind` (2), `WrongLength` (3) or `OutOfRange` (4).
 pub fn read_building(bytes: &[u8]) -> Result<Building, Refusal>
     ensures value { ReadsBuilding bytes.now result }
     ensures alone { IsFramed bytes.now → ReadsBuilding (first_note bytes.now) result }

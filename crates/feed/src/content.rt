@@ -26,8 +26,8 @@ pub(crate) trait Content: Sized {
         ensures { GivesOrRefuses (form_conditions wanted (Some kind) note.now) (says note.now) result };
 }
 
-// Reads the first note of the bytes. The public calls `read_building`, `read_factor_row`, `Note::read` and `SentNote::read`
-// are all this one.
+// Reads the first note of the bytes. The public calls `read_building`, `read_factor_row`, `Note::read` and
+// `SentNote::read` are all this one.
 #[tactic(auto, using(crate::proofs::Reading::headed, crate::proofs::Reading::reads_alone))]
 pub(crate) fn read<T: Content>(bytes: &[u8]) -> Result<T, Refusal>
     ensures value { Reads T.wanted T.says bytes.now result }

@@ -15,7 +15,7 @@ use domain::{Factor, FactorNumbers, FactorRow};
 use refusals::Refusal;
 
 /// Reads a factor row, whose numbers are in range, from the first note of the bytes. What comes after that note plays
-/// no part. Refused by `Unframed` (1), `UnwantedKind` (2), `WrongLength` (3) or `OutOfRange` (4).
+/// no part. Refused by `Unframed` (1), `UnexpectedKind` (2), `WrongLength` (3) or `OutOfRange` (4).
 pub fn read_factor_row(bytes: &[u8]) -> Result<FactorRow, Refusal>
     ensures value { ReadsFactorRow bytes.now result }
     ensures alone { IsFramed bytes.now → ReadsFactorRow (first_note bytes.now) result }

@@ -8,8 +8,9 @@ use std::io::{self, Read};
 /// The most bytes that a feed may have in the programs.
 pub const MAX_FEED_BYTES: usize = 65_536;
 
-/// Reads all that the reader still has, but at most `MAX_FEED_BYTES` and one more byte, which shows that a feed is too long.
-/// Fails where the reader or the allocator does. Of a reader whose type does not say what it has, nothing is promised.
+/// Reads all that the reader still has, but at most `MAX_FEED_BYTES` and one more byte, which shows that a feed is too
+/// long. Fails where the reader or the allocator does. Of a reader whose type does not say what it has, nothing is
+/// promised.
 pub fn read_feed<R: Read + Drop>(alloc: Global, reader: R) -> io::Result<Vec<u8>>
     ensures { IfOk result (λ bytes. IfSome (R.remaining reader) (λ feed. bytes.items ≡ take (MAX_FEED_BYTES + 1) feed)) }
 {

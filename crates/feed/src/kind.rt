@@ -35,7 +35,7 @@ impl Kind {
     }
 }
 
-/// Refused by `UnwantedKind` (2) if no kind has the number.
+/// Refused by `UnexpectedKind` (2) if no kind has the number.
 impl TryFrom<u16> for Kind {
     type Error = Refusal;
 

@@ -22,7 +22,7 @@ pub enum Note {
 
 impl Note {
     /// Reads the first note of the bytes. What comes after that note plays no part. Refused by `Unframed` (1),
-    /// `UnwantedKind` (2), `WrongLength` (3) or `OutOfRange` (4).
+    /// `UnexpectedKind` (2), `WrongLength` (3) or `OutOfRange` (4).
     pub fn read(bytes: &[u8]) -> Result<Note, Refusal>
         ensures value { Reads IsAnyKind Says bytes.now result }
         ensures alone { IsFramed bytes.now → Reads IsAnyKind Says (first_note bytes.now) result }

@@ -60,7 +60,7 @@ impl<'a> Reader<'a> {
         Ok(Some(Part { bytes, ..left }))
     }
 
-    /// Hands out the next note, or `None` where `next` returns none or is refused. The reader is then unchanged.
+    /// Hands out the next note, or `None` where `try_next` returns none or is refused. The reader is then unchanged.
     pub fn next_note(&mut self) -> Option<Part<'a>>
         ensures { HandsOutNote self.old result self.new }
     {

@@ -42,7 +42,7 @@ pub enum SentContent {
 
 impl SentNote {
     /// Reads an entry or a withdrawal from the first note of the bytes. What comes after that note plays no part.
-    /// Refused by `Unframed` (1), `UnwantedKind` (2) or `WrongLength` (3).
+    /// Refused by `Unframed` (1), `UnexpectedKind` (2) or `WrongLength` (3).
     pub fn read(bytes: &[u8]) -> Result<SentNote, Refusal>
         ensures value { Reads IsSent SaysSentNote bytes.now result }
         ensures alone { IsFramed bytes.now → Reads IsSent SaysSentNote (first_note bytes.now) result }

@@ -10,7 +10,7 @@ use std::alloc::{AllocError, Global};
 use std::io::{self, Read, Write};
 
 /// Reads a feed, and writes its listing as a whole. A feed of more than 65,536 bytes is refused by `FeedTooLong` (25),
-/// in one line instead. Errs where reading, memory or writing fails; only where writing itself fails may a part have
+/// in one line instead. Fails where reading, memory or writing fails; only where writing itself fails may a part have
 /// been written.
 pub fn write_listing<R: Read + Drop, W: Write>(
     alloc: Global,

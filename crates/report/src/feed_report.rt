@@ -10,8 +10,8 @@ use feed::OpeningError;
 use std::alloc::{AllocError, Global};
 
 /// The report of a feed's bytes: a line for each refused send, the page by stage and the grade. A feed that is refused
-/// before anything is sent, by `Unframed` (1) to `OutOfRange` (4), `TooManyRows` (24) or `FeedTooLong` (25), has the
-/// one line `denied 0 NUMBER`.
+/// before anything is sent, by `Unframed` (1) to `OutOfRange` (4), `TooManyFactorRows` (24) or `FeedTooLong` (25), has
+/// the one line `denied 0 NUMBER`.
 pub fn report(alloc: Global, feed: &[u8]) -> Result<String, AllocError>
     ensures value { IfOk result (λ text. IsReportText feed.now (string_bytes text)) }
     ensures only { IfOk result (λ text. IsOnlyText (IsReportText feed.now) (string_bytes text)) }

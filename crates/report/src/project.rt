@@ -25,7 +25,7 @@ pub(crate) struct Project<'a> {
 
 impl<'a> Project<'a> {
     // Reads the project that a feed opens with. Refused by `FeedTooLong` (25), by 1 to 4 where the building or a row
-    // is, or by `TooManyRows` (24).
+    // is, or by `TooManyFactorRows` (24).
     pub(crate) fn read(alloc: Global, feed: &'a [u8]) -> Result<Project<'a>, OpeningError>
         ensures { ReadsProject feed.now result }
     {

@@ -8,7 +8,7 @@ use feed::read_feed;
 use std::alloc::Global;
 use std::io::{self, Read, Write};
 
-/// Reads a feed, and writes its report as a whole. Errs where reading, memory or writing fails; only where writing
+/// Reads a feed, and writes its report as a whole. Fails where reading, memory or writing fails; only where writing
 /// itself fails may a part have been written. Of a feed that is too long, no more than 65,537 bytes are read.
 pub fn write_report<R: Read + Drop, W: Write>(
     alloc: Global,

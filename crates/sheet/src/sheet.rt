@@ -36,8 +36,8 @@ impl<S: FactorSource> Sheet<S> {
     }
 
     /// Enters the first note of the bytes in the book, at a new place or at that of its number. Refused, with nothing
-    /// changed, by `Unframed` (1), `UnwantedKind` (2), `WrongLength` (3), an entry's `UnknownRow` (5) to `TooLarge` (10),
-    /// `Superseded` (21), `Contradicted` (22) or `BookFull` (23); the smallest that applies is returned.
+    /// changed, by `Unframed` (1), `UnexpectedKind` (2), `WrongLength` (3), an entry's `UnknownRow` (5) to `TooLarge`
+    /// (10), `Superseded` (21), `Contradicted` (22) or `BookFull` (23); the smallest that applies is returned.
     pub fn send(&mut self, bytes: &[u8]) -> Result<(), Refusal>
         ensures value { Sends (state_of S.factor_map self.old) bytes.now result (state_of S.factor_map self.new) }
         ensures changed { IfOk result (λ _. ChangesPlaceOnly self.old self.new) }
@@ -68,8 +68,8 @@ impl<S: FactorSource> Sheet<S> {
         pages::write_page(self.book.totals(), cut, figures)
     }
 
-    /// The highest grade that the building meets by the entries in the book. Only the energy of use matters: until all of
-    /// it has been sent, the grade may be better than the building will keep.
+    /// The highest grade that the building meets by the entries in the book. Only the energy of use matters: until all
+    /// of it has been sent, the grade may be better than the building will keep.
     pub fn grade(&self) -> Grade
         ensures value { GivesGrade (state_of S.factor_map self.now) (grade_number result) }
         ensures law { KeepsLaw (state_of S.factor_map self.now) (grade_event (grade_number result)) }
