@@ -1,4 +1,6 @@
 pub mod Places
+pub mod FirstPlaces
+pub mod Indexing
 pub mod Sending
 pub mod Deciders
 pub mod RollSteps

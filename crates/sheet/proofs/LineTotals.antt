@@ -45,7 +45,7 @@ pub record Adding (places : List Place) (left : List LineNumbers) (grams : List 
   pub summed : ComesTo (pos 0) ◌+ℤ◌ grams (map row_grams left) (map row_grams (held_lines (map place_numbers places)))
   pub counted : ComesTo 0 ◌+◌ counts (map row_count left) (map row_count (held_lines (map place_numbers places)))
 
--- the lines of the places from index i on
+-- the lines of the places from the ith on
 abbrev pub lines_from : List Place → ℕ → List LineNumbers
 lines_from places i = held_lines (map place_numbers (drop i places))
 

@@ -1,4 +1,4 @@
--- Putting a place into a book, at the index of its number or, where it has none, at the next.
+-- Putting a place into a book: at the first place of its number or, where it has none, at the next.
 use Rattle.std.proofs.Common.{◌≡◌, ℕ, ◌+◌, ◌<◌, ◌≤◌, List, [], ◌∷◌, ◌++◌, length, get_or, set, take, map, Some, None, Option, Ok, Err, ◌==◌, Bool, inl, inr, ⊎_elim, ap, ◌∙◌, sym, refl, subst, arith, length-take}
 use Rattle.std.specs.List.{position, position_or_len}
 use Rattle.std.proofs.lemmas.List.{length-map, get_or-take, take_more_set}
@@ -11,25 +11,23 @@ use Rattle.sheet.specs.declared.book.Book.{Book}
 use Rattle.sheet.specs.declared.place.PlaceContent.TheVariants.{Withdrawn}
 use Rattle.sheet.specs.declared.place.Place.{Place}
 use Rattle.sheet.specs.Places.{PlaceNumbers, place_numbers, used_places, book_places}
+use Rattle.sheet.specs.Indexes.{held_numbers}
 use Rattle.sheet.specs.Placing.{place_under, IsAmong, HasRoom, replacing_conditions, places_with, Puts}
 
 -- a place that is not in use
 abbrev pub empty : Place
 empty = record { number = 0; revision = 0; content = Withdrawn }
 
--- the numbers of places
-abbrev pub numbers_of : List PlaceNumbers → List ℕ
-numbers_of ts = map (λ t. t.number) ts
-
 module _ (k : ℕ) where
-  abbrev first : List Place → ℕ
+  -- where the first place of the number k stands; if none does, behind the last
+  abbrev pub first : List Place → ℕ
   first ps = position_or_len (λ p. p.number == k) ps
 
   found : (ps : List Place) → first ps < length ps → place_under k (map place_numbers ps) ≡ Some (place_numbers (get_or ps (first ps) empty))
   found [] l = absurd (omega arith)
   found (p ∷ ps) l = grind (arith, found ps)
 
-  among : (ps : List Place) → first ps < length ps → IsAmong k (numbers_of (map place_numbers ps))
+  among : (ps : List Place) → first ps < length ps → IsAmong k (held_numbers (map place_numbers ps))
   among [] l = absurd (omega arith)
   among (p ∷ ps) l = grind (arith, among ps)
 
@@ -41,7 +39,7 @@ module _ (k : ℕ) where
   missed [] l = refl
   missed (p ∷ ps) l = grind (arith, missed ps)
 
-  not_among : (ps : List Place) → length ps ≤ first ps → IsAmong k (numbers_of (map place_numbers ps)) → ⊥
+  not_among : (ps : List Place) → length ps ≤ first ps → IsAmong k (held_numbers (map place_numbers ps)) → ⊥
   not_among [] l a = a
   not_among (p ∷ ps) l a = grind (arith, not_among ps)
 
@@ -49,7 +47,7 @@ module _ (k : ℕ) where
   added [] new l e = refl
   added (p ∷ ps) new l e = grind (arith, added ps new)
 
--- where `position` finds an index, it is the first
+-- where `position` finds a place, it is the first
 located : {X : Type 0} (p : X → Bool) (xs : List X) {at : ℕ} → position p xs ≡ Some at → (position_or_len p xs ≡ at) × (at < length xs)
 located p xs e = grind arith
 
@@ -67,7 +65,7 @@ module _ (new : Place) (book : Book) where
   line_conditions held = replacing_conditions (place_numbers new) held
 
   abbrev room_conditions_of : Conditions
-  room_conditions_of = (refusal_number BookFull, HasRoom (numbers_of (book_places book)) k) ∷ []
+  room_conditions_of = (refusal_number BookFull, HasRoom (held_numbers (book_places book)) k) ∷ []
 
   -- ---- the number has a place
 
@@ -111,7 +109,7 @@ module _ (new : Place) (book : Book) where
     none : length ps ≤ first k ps
     none = nowhere (λ p. p.number == k) ps e
 
-    as_many : length (numbers_of (book_places book)) ≡ length ps
+    as_many : length (held_numbers (book_places book)) ≡ length ps
     as_many = length-map (book_places book) (λ t. t.number) ∙ length-map ps place_numbers
 
     free : AllHold (line_conditions (place_under k (book_places book)))

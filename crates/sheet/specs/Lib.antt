@@ -1,4 +1,5 @@
 pub mod Places
+pub mod Indexes
 pub mod Placing
 pub mod RollNotes
 pub mod States

@@ -1,5 +1,5 @@
 -- States: what a sheet holds, and how a send changes it.
-use Rattle.std.specs.Prelude.{◌≡◌, ℕ, List, [], ◌++◌, IfOk, IfErr, Result}
+use Rattle.std.specs.Prelude.{◌≡◌, ℕ, List, [], ◌++◌, length, IfOk, IfErr, Result}
 use Rattle.refusals.specs.declared.refusal.Refusal.{Refusal}
 use Rattle.refusals.specs.Refusals.{answer_number, Conditions, IsAnswerNumber, GivesOrRefuses}
 use Rattle.factors.specs.Maps.{FactorMap}
@@ -12,6 +12,7 @@ use Rattle.sheet.specs.RollNotes.{roll_note_of_note, entry_conditions, NamesLack
 use Rattle.sheet.specs.declared.sheet.Sheet.{Sheet}
 use Rattle.sheet.specs.declared.place.Place.{Place}
 use Rattle.sheet.specs.Places.{PlaceNumbers, book_places, ChangesOnePlace, place_numbers}
+use Rattle.sheet.specs.Indexes.{index_with}
 use Rattle.sheet.specs.Placing.{placing_conditions, places_with}
 
 -- a sheet's building, its source's map, and the places of its book
@@ -28,12 +29,14 @@ state_of map_of s = record {
   places = book_places s.book;
 }
 
--- one place of the book is changed, and nothing else of the sheet
+-- one place of the book is changed; the search for its number now begins at what was the next free place before, or
+-- at an earlier one if it did already; and nothing else of the sheet is changed
 pub record ChangesPlaceOnly {S : Type 0} (before after : Sheet S) : Type 0 where
   pub new : Place
   pub building : after.building ≡ before.building
   pub source : after.source ≡ before.source
   pub book : ChangesOnePlace new before.book after.book
+  pub index : after.index ≡ index_with new.number (length (book_places before.book)) before.index
 
 -- the state of a sheet that was just opened
 abbrev pub new_state : BuildingNumbers → FactorMap → State

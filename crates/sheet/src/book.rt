@@ -5,12 +5,13 @@ ghost use Rattle.sheet.specs.LineSums.{held_lines, sums_of_lines};
 ghost use Rattle.totals.specs.Sums.{sums_of};
 ghost use Rattle.sheet.specs.Places.{used_places, book_places};
 ghost use Rattle.sheet.specs.Placing.{Puts};
+ghost use Rattle.sheet.specs.Indexes.{NoneBefore};
 
 use crate::place::{EMPTY, Place};
 use refusals::Refusal;
 use totals::{ROWS, Totals};
 
-const PLACES: usize = 512;
+pub(crate) const PLACES: usize = 512;
 
 // The first `used` places are in use. A withdrawn number keeps its place, so that a late amendment is known to be late.
 #[derive(Clone, Copy, Debug, PartialEq, Eq)]
@@ -54,27 +55,39 @@ impl Book {
         Totals { grams, counts }
     }
 
-    // The index of the place that has the number.
-    fn find(&self, number: u32) -> Option<usize>
+    // How many places are in use.
+    pub(crate) fn len(&self) -> usize
+        ensures value { result ≡ length (book_places self.now) }
+        ensures few { result ≤ PLACES }
+    {
+        self.used_places().len()
+    }
+
+    // Where the first place stands that has the number, if one has. The search begins at `start`, before which no place
+    // has it.
+    fn find(&self, number: u32, start: usize) -> Option<usize>
+        requires { NoneBefore start number (book_places self.now) }
         ensures { result ≡ position (λ p. p.number == number) (used_places self.now) }
     {
-        self.used_places()
-            .iter()
-            .position(|place| place.number == number)
+        let later = self.used_places().get(start..)?;
+        let at = first_with(later, number)?;
+        Some(start + at)
     }
 
     // Puts a place into the book: over that of the same number, where it is ahead of it, or into the next free one.
-    // Refused by `Superseded` (21), `Contradicted` (22) or `BookFull` (23), and then the book is unchanged.
-    pub(crate) fn put(&mut self, new: Place) -> Result<(), Refusal>
+    // Refused by `Superseded` (21), `Contradicted` (22) or `BookFull` (23), and then the book is unchanged. The search
+    // for its number begins at `start`, before which no place has it.
+    pub(crate) fn put(&mut self, new: Place, start: usize) -> Result<(), Refusal>
+        requires { NoneBefore start new.number (book_places self.now) }
         ensures { Puts new self.old result self.new }
     {
-        match self.find(new.number) {
+        match self.find(new.number, start) {
             Some(at) => self.replace(at, new),
             None => self.add(new),
         }
     }
 
-    // Puts a place over the one at this index, the first of its number.
+    // Puts a place over the one that stands at `at`, the first of its number.
     fn replace(&mut self, at: usize, new: Place) -> Result<(), Refusal>
         requires { position (λ p. p.number == new.number) (used_places self.now) ≡ Some at }
         ensures { Puts new self.old result self.new }
@@ -102,4 +115,11 @@ impl Book {
     {
         self.used >= PLACES
     }
+}
+
+// Where the first place stands that has the number.
+fn first_with(places: &[Place], number: u32) -> Option<usize>
+    ensures { result ≡ position (λ p. p.number == number) places.now }
+{
+    places.iter().position(|place| place.number == number)
 }

@@ -3,6 +3,7 @@
 
 mod all_calls;
 mod book;
+mod index;
 mod place;
 mod record;
 mod sheet;

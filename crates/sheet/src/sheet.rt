@@ -1,12 +1,9 @@
 //! The sheet and its three calls: a send, a page and a grade.
-ghost use Rattle.std.specs.Prelude.{◌≡◌, IfOk, IfErr};
-ghost use Rattle.domain.specs.Buildings.{numbers_of};
-ghost use Rattle.grades.specs.Grades.{grade_number};
-ghost use Rattle.sheet.specs.Histories.{DrawsPage, GivesGrade, send_event, page_event, grade_event};
-ghost use Rattle.sheet.specs.Laws.{KeepsLaw};
-ghost use Rattle.sheet.specs.States.{state_of, new_state, ChangesPlaceOnly, Sends, GivesSentPlace, NamesSentLack};
+ghost use Rattle.sheet.specs.Places.{book_places};
+ghost use Rattle.sheet.specs.Indexes.{IsIndexOf};
 
 use crate::book::Book;
+use crate::index::Index;
 use crate::place::Place;
 use domain::Building;
 use factors::FactorSource;
@@ -21,9 +18,18 @@ pub struct Sheet<S> {
     building: Building,
     source: S,
     book: Book,
+    index: Index,
+    ghost indexed: { IsIndexOf index (book_places book) },
 }
 
 impl<S: FactorSource> Sheet<S> {
+    ghost use Rattle.std.specs.Prelude.{◌≡◌, IfOk, IfErr};
+    ghost use Rattle.domain.specs.Buildings.{numbers_of};
+    ghost use Rattle.grades.specs.Grades.{grade_number};
+    ghost use Rattle.sheet.specs.Histories.{DrawsPage, GivesGrade, send_event, page_event, grade_event};
+    ghost use Rattle.sheet.specs.Laws.{KeepsLaw};
+    ghost use Rattle.sheet.specs.States.{state_of, new_state, ChangesPlaceOnly, Sends, GivesSentPlace, NamesSentLack};
+
     /// Opens a sheet whose book is empty.
     pub fn open(building: Building, source: S) -> Sheet<S>
         ensures { state_of S.factor_map result ≡ new_state (numbers_of building) (S.factor_map source) }
@@ -32,6 +38,7 @@ impl<S: FactorSource> Sheet<S> {
             building,
             source,
             book: Book::new(),
+            index: Index::new(),
         }
     }
 
@@ -45,7 +52,12 @@ impl<S: FactorSource> Sheet<S> {
         ensures law { KeepsLaw (state_of S.factor_map self.old) (send_event bytes.now result) }
     {
         let place = self.place_of(bytes)?;
-        self.book.put(place)
+        let start = self.index.start(place.number);
+        let next = self.book.len();
+        self.book.put(place, start)?;
+        // A new number now has the place `next`. A held one has a place before that, and its search begins as before.
+        self.index.lower(place.number, next);
+        Ok(())
     }
 
     // The place that the first note of the bytes takes, independent of what the book holds.

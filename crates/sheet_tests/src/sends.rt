@@ -81,3 +81,34 @@ fn a_full_book(rt: HostRuntime) -> Result<(), Refusal> {
     assert_eq!(rt; sheet.page(&ByStage, &mut figures), Ok(total));
     Ok(())
 }
+
+// Numbers with the same remainder when divided by 4,096, so that the search for each begins at the place of the first,
+// and one, 6, with another.
+#[test]
+fn numbers_of_one_remainder(rt: HostRuntime) -> Result<(), Refusal> {
+    let mut sheet = Sheet::open(house()?, list());
+    for number in [5, 4_101, 6, 8_197] {
+        assert_eq!(rt; sheet.send(&entry(number, 0, 22, 1_000)), Ok(()));
+    }
+    assert_eq!(rt; sheet.send(&entry(4_101, 1, 1, 5_000)), Ok(()));
+    assert_eq!(rt;
+        sheet.send(&entry(8_197, 0, 22, 1_000)),
+        Err(Refusal::Superseded)
+    );
+    assert_eq!(rt; sheet.send(&withdrawal(5, 1)), Ok(()));
+    assert_eq!(rt; sheet.send(&entry(12_293, 0, 1, 3_000)), Ok(()));
+    assert_eq!(rt;
+        sheet.send(&entry(5, 0, 1, 1_000)),
+        Err(Refusal::Superseded)
+    );
+    let mut figures = [Figure {
+        kilograms: 0,
+        count: 0,
+    }; 4];
+    let total = Figure {
+        kilograms: 4,
+        count: 4,
+    };
+    assert_eq!(rt; sheet.page(&ByStage, &mut figures), Ok(total));
+    Ok(())
+}
