@@ -2,7 +2,7 @@
 use feed::MAX_FEED_BYTES;
 use listing::write_listing;
 use pages::Figure;
-use report::{page_lines, write_report};
+use report::{PageLines, write_report};
 use std::alloc::{AllocError, Global};
 use std::io::{self, ErrorKind, Read, Write};
 use std::test::Fail;
@@ -136,7 +136,12 @@ fn of_22_headings(rt: HostRuntime) -> Result<(), Fail> {
         writeln!(expected, "{k} -1000 7")?;
     }
     expected.write_all(b"total -22000 154\n")?;
-    let text = page_lines(rt.alloc(), &[heading; 22], &total)?;
+    let headings = [heading; 22];
+    let page = PageLines {
+        headings: &headings,
+        total,
+    };
+    let text = format!(in rt.alloc(); "{page}")?;
     assert_eq!(rt; text.as_str().as_bytes(), expected.as_slice());
     Ok(())
 }

@@ -21,7 +21,7 @@ use Rattle.refusals.proofs.Deciding.{SameAnswer, answer_unique, absent_not_least
 use Rattle.feed.proofs.Framing.{framed_front, framed_or_not, front_only}
 use Rattle.listing.specs.declared.outcome.Outcome.{Outcome}
 use Rattle.listing.specs.declared.outcome.Outcome.TheVariants.{Booked, Refused, Unbooked}
-use Rattle.listing.specs.ListingLines.{kind_word_or_unknown, entry_of, IsRefusedText, IsOutcome, outcome_text, IsNoteOutcome, outcome_suffix, IsNoteText, IsAnswerText, IsStatement, IsLine}
+use Rattle.listing.specs.ListingLines.{kind_word_or_unknown, entry_of, IsRefusedText, IsOutcome, outcome_text, IsNoteOutcome, outcome_suffix, IsNoteText, IsAnswerText, IsStatement, placed_line, IsLine}
 use Rattle.listing.specs.Bases.{Basis, unbooked, by, basis_with}
 use Rattle.listing.specs.Listings.{IsLastLine, Lists, note, last, ListsFeed}
 use Rattle.listing.proofs.OneBasis.{basis_only}
@@ -81,7 +81,7 @@ tells_only {a} {bs} {s} {t} x y =
 
 pub line_only : {a : Basis} {k at : ℕ} {bs l m : List ℕ} → IsLine a k at bs l → IsLine a k at bs m → l ≡ m
 line_only {a} {k} {at} x y =
-    x.text ∙ ap (λ s. decimal k ++ (spaced_field (codes "at", at) ++ (codes " " ++ (s ++ codes "\n")))) (tells_only x.tells y.tells) ∙ sym y.text
+    x.text ∙ ap (placed_line k at) (tells_only x.tells y.tells) ∙ sym y.text
 
 last_only : (a : Basis) (k at : ℕ) (bs l m : List ℕ) → IsLastLine a k at bs l → IsLastLine a k at bs m → l ≡ m
 last_only a k at [] l m p q = p.none refl ∙ sym (q.none refl)

@@ -89,11 +89,15 @@ pub record IsStatement (a : Basis) (bs s : List ℕ) : Type 0 where
   pub read : Reads IsAnyKind Says bs answer
   pub tells : IsAnswerText a bs answer s
 
+-- the line that says s of the bytes at the place k, with `at` bytes of the feed before them
+abbrev pub placed_line : ℕ → ℕ → List ℕ → List ℕ
+placed_line k at s = decimal k ++ (spaced_field (codes "at", at) ++ (codes " " ++ (s ++ codes "\n")))
+
 -- the line of the bytes at the place k, with `at` bytes of the feed before them
 pub record IsLine (a : Basis) (k at : ℕ) (bs line : List ℕ) : Type 0 where
   pub statement : List ℕ
   pub tells : IsStatement a bs statement
-  pub text : line ≡ decimal k ++ (spaced_field (codes "at", at) ++ (codes " " ++ (statement ++ codes "\n")))
+  pub text : line ≡ placed_line k at statement
 
 -- the line of a part of a feed
 abbrev pub IsPartLine : Basis → Part → List ℕ → Type 0

@@ -2,10 +2,10 @@
 ghost use Rattle.std.specs.Prelude.{IfOk, string_bytes};
 ghost use Rattle.listing.specs.Listings.{ListsFeed, IsLastPartLine};
 ghost use Rattle.listing.specs.Bases.{basis_of};
-ghost use Rattle.feed.specs.Writing.{IsOnlyText};
+ghost use Rattle.feed.specs.Writing.{GrowsByText, IsOnlyText};
 
 use crate::basis::BookingBasis;
-use crate::listing_line::part_line;
+use crate::part_line::PartLine;
 use feed::{Part, Reader};
 use std::alloc::{AllocError, Global};
 
@@ -18,23 +18,23 @@ pub fn listing(alloc: Global, feed: &[u8]) -> Result<String, AllocError>
     let mut text = String::new(alloc);
     let mut reader = Reader::new(feed);
     while let Some(part) = reader.next_note() {
-        let line = part_line(alloc, &basis, &part)?;
-        text.push_str(line.as_str())?;
+        let line = PartLine::of(&basis, &part);
+        write!(text, "{line}")?;
     }
-    let last = last_line(alloc, &basis, &reader.rest())?;
-    text.push_str(last.as_str())?;
+    append_last_line(&mut text, &basis, &reader.rest())?;
     Ok(text)
 }
 
-// The line for the bytes that are left after the last note. It takes the allocator and the basis apart, as `part_line`
-// does.
-fn last_line(alloc: Global, basis: &BookingBasis, left: &Part) -> Result<String, AllocError>
-    ensures { IfOk result (λ s. IsLastPartLine (basis_of basis.now) left.now (string_bytes s)) }
+// Appends the line for the bytes that are left after the last note.
+fn append_last_line(text: &mut String, basis: &BookingBasis, left: &Part) -> Result<(), AllocError>
+    ensures { IfOk result (λ _. GrowsByText (IsLastPartLine (basis_of basis.now) left.now)
+        (string_bytes text.old) (string_bytes text.new)) }
 {
     if left.bytes.is_empty() {
         let start = left.start;
-        format!(in alloc; "end at={start}\n")
+        writeln!(text, "end at={start}")
     } else {
-        part_line(alloc, basis, left)
+        let line = PartLine::of(basis, left);
+        write!(text, "{line}")
     }
 }

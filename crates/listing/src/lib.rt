@@ -3,12 +3,12 @@
 
 mod basis;
 mod feed_listing;
-mod listing_line;
 mod outcome;
+mod part_line;
 mod statement;
 mod writing;
 
 pub use basis::BookingBasis;
 pub use feed_listing::listing;
-pub use listing_line::part_line;
+pub use part_line::PartLine;
 pub use writing::write_listing;

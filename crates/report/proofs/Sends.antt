@@ -8,6 +8,7 @@ use Rattle.feed.specs.declared.reader.Part.{Part}
 use Rattle.feed.specs.declared.reader.Reader.{Reader}
 use Rattle.feed.specs.Feeds.{part_bytes, rest_of, IsNewReader, HandsOut, IsRest, Stays}
 use Rattle.feed.specs.Frames.{IsFramed}
+use Rattle.feed.specs.Writing.{GrowsByText}
 use Rattle.feed.proofs.ReaderLoop.{SoFar, begun, one_more, stays, all}
 use Rattle.feed.proofs.ReaderLaw.{hands_note}
 use Rattle.sheet.specs.PageAndGrade.{send_events}
@@ -40,7 +41,10 @@ none_sent start fresh empty =
 
 module _ {b : BuildingNumbers} {factor_map : FactorMap} {bytes : List ℕ} {r : Reader} {s : State} {written : List ℕ} (old : SentSoFar b factor_map bytes r s written) where
   -- one part is sent, at its place
-  module _ (p : Part) (place : p.place ≡ r.handed_out + 1) {t : State} {line pushed longer : List ℕ} (step : WritesSend s p.place (part_bytes p) t line) (is : longer ≡ written ++ pushed) (added : pushed ≡ line) where
+  module _ (p : Part) (place : p.place ≡ r.handed_out + 1) {t : State} {longer : List ℕ} (grows : GrowsByText (WritesSend s p.place (part_bytes p) t) written longer) where
+    abbrev step : WritesSend s p.place (part_bytes p) t grows.text
+    step = grows.says
+
     abbrev answered_more : List (List ℕ × Result (Unit {0}) Refusal)
     answered_more = (part_bytes p, step.answer) ∷ old.answered
 
@@ -52,7 +56,7 @@ module _ {b : BuildingNumbers} {factor_map : FactorMap} {bytes : List ℕ} {r : 
         let count = length_sends old.answered in
         let places = old.places in
         let at : p.place ≡ length (sent_bytes (send_events old.answered)) + 1 = omega (arith, place, places, count) in
-        is ∙ (λ i. old.same i ++ (added ∙ step.written ∙ ap (λ k. send_text k step.answer) at) i)
+        grows.appended ∙ (λ i. old.same i ++ (step.written ∙ ap (λ k. send_text k step.answer) at) i)
 
     pub note_sent : {u : Reader} → HandsOut r p u → SentSoFar b factor_map bytes u t longer
     note_sent {u} hands =

@@ -4,6 +4,9 @@ use Rattle.std.specs.Fmt.{signed_decimal}
 use Rattle.refusals.specs.declared.refusal.Refusal.{Refusal}
 use Rattle.refusals.specs.Refusals.{refusal_number}
 use Rattle.pages.specs.declared.figure.Figure.{Figure}
+use Rattle.grades.specs.Grades.{grade_number}
+use Rattle.report.specs.declared.report_line.ReportLine.{ReportLine}
+use Rattle.report.specs.declared.report_line.ReportLine.TheVariants.{Denied, Heading, Total, Grade}
 
 -- a refusal: its place among the sends, from 1, or 0 where it comes before them, and its number
 abbrev pub denied_line : ℕ → Refusal → List ℕ
@@ -26,3 +29,10 @@ page_lines figures total = heading_lines 1 figures ++ figure_line (codes "total"
 -- a grade, by its number
 abbrev pub grade_line : ℕ → List ℕ
 grade_line n = codes "grade " ++ (decimal n ++ codes "\n")
+
+-- the text of a line
+abbrev pub report_line_text : ReportLine → List ℕ
+report_line_text (Denied place refusal) = denied_line place refusal
+report_line_text (Heading heading figure) = figure_line (decimal heading) figure
+report_line_text (Total figure) = figure_line (codes "total") figure
+report_line_text (Grade grade) = grade_line (grade_number grade)

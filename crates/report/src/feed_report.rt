@@ -5,7 +5,7 @@ ghost use Rattle.feed.specs.Writing.{IsOnlyText};
 
 use crate::project::Project;
 use crate::project_report::project_report;
-use crate::report_lines::denied_line;
+use crate::report_line::ReportLine;
 use feed::OpeningError;
 use std::alloc::{AllocError, Global};
 
@@ -19,7 +19,10 @@ pub fn report(alloc: Global, feed: &[u8]) -> Result<String, AllocError>
 {
     match Project::read(alloc, feed) {
         Ok(project) => project_report(alloc, &project),
-        Err(OpeningError::Refused(refusal)) => denied_line(alloc, 0, refusal),
+        Err(OpeningError::Refused(refusal)) => {
+            let line = ReportLine::Denied { place: 0, refusal };
+            format!(in alloc; "{line}")
+        }
         Err(OpeningError::OutOfMemory(error)) => Err(error),
     }
 }

@@ -2,12 +2,14 @@
 #![tactic(auto)]
 
 mod feed_report;
+mod page_lines;
 mod project;
 mod project_report;
-mod report_lines;
+mod report_line;
 mod sending;
 mod writing;
 
 pub use feed_report::report;
-pub use report_lines::{denied_line, grade_line, page_lines, stage_line, total_line};
+pub use page_lines::PageLines;
+pub use report_line::ReportLine;
 pub use writing::write_report;

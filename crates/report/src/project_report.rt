@@ -1,12 +1,14 @@
 //! The report of a project.
 ghost use Rattle.std.specs.Prelude.{IfOk, string_bytes};
 ghost use Rattle.report.specs.ProjectReports.{IsProjectReport};
+ghost use Rattle.feed.specs.Writing.{GrowsByText};
 ghost use Rattle.report.specs.Calls.{WritesPage};
 ghost use Rattle.report.specs.Projects.{parts_of_project};
 ghost use Rattle.sheet.specs.States.{state_of};
 
+use crate::page_lines::PageLines;
 use crate::project::Project;
-use crate::report_lines::{grade_line, page_lines};
+use crate::report_line::ReportLine;
 use crate::sending::send_all;
 use factors::{FactorSource, ProjectFactors};
 use pages::{ByStage, Cut, Figure};
@@ -22,21 +24,25 @@ pub(crate) fn project_report(alloc: Global, project: &Project) -> Result<String,
     };
     let mut sheet = Sheet::open(project.building, source);
     let mut text = send_all(alloc, &mut sheet, project.notes)?;
-    let page = stage_page(alloc, &sheet)?;
-    let grade = grade_line(alloc, sheet.grade())?;
-    text.push_str(page.as_str())?;
-    text.push_str(grade.as_str())?;
+    append_stage_page(&mut text, &sheet)?;
+    let grade = ReportLine::Grade(sheet.grade());
+    write!(text, "{grade}")?;
     Ok(text)
 }
 
-// The page by stage: a line for each stage, and one for the total.
-fn stage_page<S: FactorSource>(alloc: Global, sheet: &Sheet<S>) -> Result<String, AllocError>
-    ensures { IfOk result (λ text. WritesPage (state_of S.factor_map sheet.now) (string_bytes text)) }
+// Appends the page by stage: a line for each stage, and one for the total.
+fn append_stage_page<S: FactorSource>(text: &mut String, sheet: &Sheet<S>) -> Result<(), AllocError>
+    ensures { IfOk result (λ _. GrowsByText (WritesPage (state_of S.factor_map sheet.now))
+        (string_bytes text.old) (string_bytes text.new)) }
 {
     let mut stages = [Figure {
         kilograms: 0,
         count: 0,
     }; ByStage::HEADINGS];
     let total = sheet.page(&ByStage, &mut stages).unwrap();
-    page_lines(alloc, &stages, &total)
+    let page = PageLines {
+        headings: &stages,
+        total,
+    };
+    write!(text, "{page}")
 }

@@ -1,10 +1,11 @@
 //! Sending the notes of a feed into a sheet.
 ghost use Rattle.std.specs.Prelude.{IfOk, string_bytes};
 ghost use Rattle.report.specs.ProjectReports.{SendsAllFrom};
+ghost use Rattle.feed.specs.Writing.{GrowsByText};
 ghost use Rattle.report.specs.Calls.{WritesSend};
 ghost use Rattle.sheet.specs.States.{state_of};
 
-use crate::report_lines::denied_line;
+use crate::report_line::ReportLine;
 use factors::FactorSource;
 use feed::{Part, Reader};
 use sheet::Sheet;
@@ -23,29 +24,31 @@ pub(crate) fn send_all<S: FactorSource>(
     let mut text = String::new(alloc);
     let mut reader = Reader::new(notes);
     while let Some(part) = reader.next_note() {
-        let line = send(alloc, sheet, &part)?;
-        text.push_str(line.as_str())?;
+        send(&mut text, sheet, &part)?;
     }
     let left = reader.rest();
     if left.bytes.is_empty() {
         return Ok(text);
     }
-    let last = send(alloc, sheet, &left)?;
-    text.push_str(last.as_str())?;
+    send(&mut text, sheet, &left)?;
     Ok(text)
 }
 
-// Sends the first note of a part. Returns the line of its refusal, or no text where it is accepted.
+// Sends the first note of a part, and appends the line of its refusal, if it is refused.
 fn send<S: FactorSource>(
-    alloc: Global,
+    text: &mut String,
     sheet: &mut Sheet<S>,
     part: &Part,
-) -> Result<String, AllocError>
-    ensures { IfOk result (λ text. WritesSend (state_of S.factor_map sheet.old) part.now.place part.now.bytes.now
-        (state_of S.factor_map sheet.new) (string_bytes text)) }
+) -> Result<(), AllocError>
+    ensures { IfOk result (λ _. GrowsByText (WritesSend (state_of S.factor_map sheet.old) part.now.place
+        part.now.bytes.now (state_of S.factor_map sheet.new)) (string_bytes text.old) (string_bytes text.new)) }
 {
     match sheet.send(part.bytes) {
-        Ok(()) => Ok(String::new(alloc)),
-        Err(refusal) => denied_line(alloc, part.place, refusal),
+        Ok(()) => Ok(()),
+        Err(refusal) => {
+            let place = part.place;
+            let line = ReportLine::Denied { place, refusal };
+            write!(text, "{line}")
+        }
     }
 }

@@ -14,11 +14,11 @@ loop-part-smaller c = fewer_left c.in-Some.ensures
 
 pub loop-part-preserved : goal.loop-part-preserved
 loop-part-preserved c =
-    line_more (basis_of c.in_ok-basis.basis) c.loop-part.invariant c.in-Some.part c.next_note.new.self c.in-Some.ensures c.in_ok-line.ensures.value c.in_ok-push_str.ensures.bytes c.as_str.ensures.value
+    line_more (basis_of c.in_ok-basis.basis) c.loop-part.invariant c.in-Some.part c.next_note.new.self c.in-Some.ensures c.of-line.ensures.value c.in_ok-write.ensures.bytes
 
 pub returns : goal.returns
 returns c =
     let none = c.in_default.ensures in
-    let lists = last_more (basis_of c.in_ok-basis.basis) c.loop-part.invariant c.next_note.new.self c.rest.result none.0 none.1 c.rest.ensures c.in_ok-last.ensures c.in_ok-push_str-2.ensures.bytes c.as_str-2.ensures.value in
+    let lists = last_more (basis_of c.in_ok-basis.basis) c.loop-part.invariant c.next_note.new.self c.rest.result none.0 none.1 c.rest.ensures c.in_ok-append_last_line.ensures in
     let listing : ListsFeed c.args.feed.now _ = record { building = _; rows = _; begins = c.in_ok-basis.ensures; lists = lists } in
     record { value = listing; only = λ other more. listing_only more listing }

@@ -15,5 +15,5 @@ pub returns-in-Err-Refused : goal.returns-in-Err-Refused
 returns-in-Err-Refused c =
     let feed = c.args.feed.now in
     let opens : GivesProject feed (Err c.in-Err-Refused.refusal) = rw c.in-Err-Refused.field-0-is at c.in-Err-Refused.ensures in
-    let value = IfOk-weaker c.denied_line.result _ (λ s. IsReportText feed (string_bytes s)) (λ s is. denied opens is) c.denied_line.ensures in
-    record { value = value; only = only_report feed c.denied_line.result value; law = lawful_report feed c.denied_line.result value }
+    let value = IfOk-weaker c.format.result _ (λ s. IsReportText feed (string_bytes s)) (λ s is. denied opens is) c.format.ensures.ok in
+    record { value = value; only = only_report feed c.format.result value; law = lawful_report feed c.format.result value }

@@ -1,4 +1,3 @@
-use Rattle.std.proofs.Common.{◌∙◌}
 use Rattle.domain.specs.Buildings.{numbers_of}
 use Rattle.factors.specs.Layers.{project_map}
 use Rattle.report.specs.Projects.{parts_of_project}
@@ -10,5 +9,4 @@ returns c =
     let project = c.args.project.now in
     let rows = c.as_slice.result.now in
     let sent = c.in_ok-text.ensures (numbers_of project.building) (project_map rows) c.open-sheet.ensures in
-    written (parts_of_project project) rows c.as_slice.ensures.value sent c.in_ok-page.ensures c.grade.ensures.value
-    c.in_ok-push_str.ensures.bytes c.as_str.ensures.value c.in_ok-push_str-2.ensures.bytes (c.as_str-2.ensures.value ∙ c.in_ok-grade.ensures)
+    written (parts_of_project project) rows c.as_slice.ensures.value sent c.in_ok-append_stage_page.ensures c.grade.ensures.value c.in_ok-write.ensures.bytes

@@ -9,8 +9,7 @@ loop-part-init g c = λ b factor_map fresh. none_sent c.new-reader.ensures fresh
 pub loop-part-preserved : goal.loop-part-preserved
 loop-part-preserved g c = λ b factor_map fresh.
     let hands = c.in-Some.ensures in
-    note_sent (c.loop-part.invariant b factor_map fresh) c.in-Some.part hands.place c.in_ok-line.ensures
-    c.in_ok-push_str.ensures.bytes c.as_str.ensures.value hands
+    note_sent (c.loop-part.invariant b factor_map fresh) c.in-Some.part hands.place c.in_ok-send.ensures hands
 
 pub returns-then-is_empty : goal.returns-then-is_empty
 returns-then-is_empty g c = λ b factor_map fresh.
@@ -20,5 +19,4 @@ returns-then-is_empty g c = λ b factor_map fresh.
 pub returns : goal.returns
 returns g c = λ b factor_map fresh.
     let last = no_more (c.loop-part.invariant b factor_map fresh) c.in_default.ensures.0 in
-    left_sent last c.rest-left.result c.rest-left.ensures.place c.in_ok-last.ensures
-    c.in_ok-push_str-2.ensures.bytes c.as_str-2.ensures.value c.in_default.ensures.1 c.rest-left.ensures (grind (arith, c.if-is_empty.ensures))
+    left_sent last c.rest-left.result c.rest-left.ensures.place c.in_ok-send-2.ensures c.in_default.ensures.1 c.rest-left.ensures (grind (arith, c.if-is_empty.ensures))
